@@ -1,0 +1,2 @@
+-- What a call answers, and chains of refusals. Assumes nothing.
+pub mod Said

@@ -1,0 +1,66 @@
+// What a call answers.
+ghost use mathlib.Core.Path.{_≡_};
+ghost use Rattle.answers.specs.Said.{refusalNumber};
+
+// Why a call is refused, in the order of document 01's numbers 1 to 22.
+pub enum Refusal {
+    User,
+    Entry,
+    Open,
+    Pointer,
+    Permit,
+    Below,
+    Beyond,
+    Segments,
+    Room,
+    Positions,
+    Unknown,
+    NotYours,
+    NoWork,
+    NotNow,
+    Empty,
+    Taken,
+    Place,
+    Public,
+    Species,
+    Tables,
+    Pointers,
+    Image,
+}
+
+// "An answer is either done, with its number where there is one, or refused, with one of these inside it": done is 0 where
+// there is no number.
+pub enum Answer {
+    Done(u32),
+    Refused(Refusal),
+}
+
+// The number of the table.
+pub fn number(refusal: Refusal) -> u32
+    ensures { λ r. ⌜ r ≡ refusalNumber refusal ⌝ }
+{
+    match refusal {
+        Refusal::User => 1,
+        Refusal::Entry => 2,
+        Refusal::Open => 3,
+        Refusal::Pointer => 4,
+        Refusal::Permit => 5,
+        Refusal::Below => 6,
+        Refusal::Beyond => 7,
+        Refusal::Segments => 8,
+        Refusal::Room => 9,
+        Refusal::Positions => 10,
+        Refusal::Unknown => 11,
+        Refusal::NotYours => 12,
+        Refusal::NoWork => 13,
+        Refusal::NotNow => 14,
+        Refusal::Empty => 15,
+        Refusal::Taken => 16,
+        Refusal::Place => 17,
+        Refusal::Public => 18,
+        Refusal::Species => 19,
+        Refusal::Tables => 20,
+        Refusal::Pointers => 21,
+        Refusal::Image => 22,
+    }
+}

@@ -1,0 +1,78 @@
+-- What the cells of tables say, and how it is written there. Assumes nothing.
+use Prim.Native.Nat.{ℕ, _-_}
+use mathlib.Core.Bool.{cond}
+use mathlib.Core.Option.{Option, none, some}
+use mathlib.Core.List.{List, _++_, map}
+use lib.ListN.{length, take, replicate}
+use Rattle.combine.specs.Lists.{tab}
+use Rattle.placing.specs.declared.Segment.{Segment}
+use Rattle.placing.specs.Placing.{segment, position}
+use Rattle.rules.specs.Headings.{filing, opening}
+use Rattle.rules.specs.House.{house, Filing, kept, becomes, Change}
+use Rattle.segments.specs.Free.{SegmentRecord, SegmentOpening, SegmentHouse}
+use Rattle.tables.specs.declared.Record.{Record}
+use Rattle.tables.specs.declared.Opening.{Opening}
+use Rattle.tables.specs.Layout.{segmentNumber, segmentsIn, recordAt, openingAt, putRecord, putOpening, unusedRecord, closedOpening}
+use Rattle.tables.specs.Handles.{bit, handleIn, headingOf, placeNumber}
+use Rattle.tables.specs.Fields.{isUsed, isOpen, heldByRecord, heldByOpening}
+
+-- ---- from cells
+
+-- with the segments that are held
+abbrev pub recordIn : Record → SegmentRecord
+recordIn r = filing (headingOf r) (take (heldByRecord r) (map segmentNumber (r .segments)))
+
+abbrev pub openingIn : Opening → SegmentOpening
+openingIn o = opening (handleIn o) (take (heldByOpening o) (map segmentNumber (o .segments)))
+
+unfoldable pub recordSays : Record → Option SegmentRecord
+recordSays r = cond (isUsed r) (some (recordIn r)) none
+
+unfoldable pub openingSays : Opening → Option SegmentOpening
+openingSays o = cond (isOpen o) (some (openingIn o)) none
+
+unfoldable pub houseOf : List ℕ → SegmentHouse
+houseOf t = house (segmentsIn t) (tab 64 (λ p. recordSays (recordAt t p))) (tab 32 (λ i. openingSays (openingAt t i)))
+
+-- ---- to cells
+
+-- "Unused list places are zero"
+unfoldable pub inPlaces : List ℕ → List Segment
+inPlaces l = map segment (l ++ replicate (32 - length l) 0)
+
+unfoldable pub asRecord : Option SegmentRecord → Record
+asRecord none = unusedRecord
+asRecord (some r) =
+    let h = r .head in
+    record {
+      used = 1;
+      name = h .name;
+      owner = h .owner;
+      private = bit (h .private);
+      species = h .species;
+      begin = position (h .begin);
+      end = position (h .end);
+      segments = inPlaces (r .content);
+    }
+
+unfoldable pub asOpening : Option SegmentOpening → Opening
+asOpening none = closedOpening
+asOpening (some x) =
+    let h = x .handle in
+    record {
+      opened = 1;
+      place = placeNumber (h .place);
+      permit = bit (h .permit);
+      species = h .species;
+      pointers = map position (h .pointers);
+      name = h .name;
+      segments = inPlaces (x .content);
+    }
+
+-- a change at entry i: one record at most, and one opening, are written
+abbrev pub filedIn : List ℕ → Filing (List ℕ) → List ℕ
+filedIn t kept = t
+filedIn t (becomes p r) = putRecord t p (asRecord r)
+
+unfoldable pub written : List ℕ → ℕ → Change (List ℕ) (List ℕ) → List ℕ
+written t i c = putOpening (filedIn t (c .filing)) i (asOpening (c .entry))

@@ -1,0 +1,2 @@
+-- Laws that the proofs of the loops share. Assumes nothing.
+pub mod Turns

@@ -1,0 +1,56 @@
+-- `combine::all_below` meets its contract: all cells before `i` passed the test. Assumes nothing.
+use Prim.Native.Nat.{_≤_, _-_}
+use mathlib.Core.Path.{_≡_}
+use mathlib.Core.Bool.{true}
+use native.Mathlib.Omega.{arith}
+use borrow.Author.Tests.{lt-ltb, le-ltb}
+use lib.ListN.{length, getD}
+use lib.Dec.{ltb}
+use Rattle.combine.specs.Below.{allBelow, all-zero, all-more, loop-true, loop-false}
+use Rattle.combine.proofs.all_below.Statement.{statement}
+use Rattle.combine.proofs.all_below.Tie as tie
+
+abbrev Inv-loop : tie.InvT-loop
+Inv-loop cells bound i₀ i = (i ≤ length cells) × (allBelow i (λ k. ltb (getD cells k 0) bound) ≡ true)
+
+abbrev μ-loop : tie.MeasureT-loop
+μ-loop cells bound i₀ i = length cells - i
+
+loop-holds : tie.Need-loop-holds Inv-loop μ-loop
+loop-holds c = (omega arith, all-zero _)
+
+mul-if1 : tie.Need-mul-if1 Inv-loop μ-loop
+mul-if1 c = omega arith
+
+shared-slice-read-if1 : tie.Need-shared-slice-read-if1 Inv-loop μ-loop
+shared-slice-read-if1 c = omega arith
+
+returns : tie.Need-returns Inv-loop μ-loop
+returns c = loop-false _ _ _ (omega arith) (le-ltb _ _ (c .if1 .taken))
+
+add-i : tie.Need-add-i Inv-loop μ-loop
+add-i c = omega arith
+
+loop-less : tie.Need-loop-less Inv-loop μ-loop
+loop-less c = omega arith
+
+loop-again : tie.Need-loop-again Inv-loop μ-loop
+loop-again c = (omega arith, all-more _ _ (c .before .before .before .loop .inv .1) (lt-ltb _ _ (c .if1 .left)))
+
+returns-2 : tie.Need-returns-2 Inv-loop μ-loop
+returns-2 c = loop-true _ _ _ (omega arith) (omega arith) (c .before .loop .inv .1)
+
+pub all-below-spec : {M : Type 1} → statement M
+all-below-spec =
+    tie.close
+    (tie.spec
+    Inv-loop
+    μ-loop
+    loop-holds
+    mul-if1
+    shared-slice-read-if1
+    returns
+    add-i
+    loop-less
+    loop-again
+    returns-2)

@@ -1,0 +1,136 @@
+-- Demand 3: an opening that is abandoned leaves no trace. Assumes nothing.
+use Prim.Native.Nat.{ℕ}
+use mathlib.Core.Path.{_≡_}
+use mathlib.Core.Bool.{Bool, true, false, not, _&&_, _||_, cond}
+use mathlib.Core.List.{List, [], _∷_, _++_, map}
+use lib.Dec.{T, eqb}
+use Rattle.combine.specs.Verdict.{Said, done, refused, isDone}
+use Rattle.rules.specs.Calls.{Way, Request, opens, closes, abandons, uses, Call, fresh, save, load, count, on}
+use Rattle.cells.specs.Outcomes.{Lent}
+use Rattle.model.specs.Step.{Report}
+use Rattle.demands.specs.History.{outcomeOn, next, viewOn, toldAll, final}
+
+-- ---- calls between an opening of user u by entry e and its abandonment
+
+-- the call is the user's on the entry
+abbrev pub isOn : ℕ → ℕ → Call → Bool
+isOn u e fresh = false
+isOn u e (save img) = false
+isOn u e (load img) = false
+isOn u e (count v) = false
+isOn u e (on v d r) = eqb u v && eqb e d
+
+abbrev pub ending : Request → Bool
+ending (opens w) = false
+ending (closes public) = true
+ending abandons = true
+ending (uses a) = false
+
+-- the call ends the opening, if it is done
+abbrev pub ends : ℕ → ℕ → Call → Bool
+ends u e fresh = true
+ends u e (save img) = false
+ends u e (load img) = true
+ends u e (count v) = false
+ends u e (on v d r) = (eqb u v && eqb e d) && ending r
+
+-- answered "no room" or "not now"
+abbrev pub crowded : Said → Bool
+crowded (done n) = false
+crowded (refused n) = eqb n 9 || eqb n 14
+
+-- the opening goes on; and a call that is not the user's on the entry is not answered 9 or 14
+abbrev pub quiet : ℕ → ℕ → Call → Said → Bool
+quiet u e c a = not (ends u e c && isDone a) && (isOn u e c || not (crowded a))
+
+abbrev pub Quiet : ℕ → ℕ → List Call → Lent → Type 0
+Quiet u e [] x = Unit {0}
+Quiet u e (c ∷ cs) x = T (quiet u e c (outcomeOn c x .answer)) × Quiet u e cs (next c x)
+
+-- a load that is done reads what cells freed segments were left with, and these may differ
+abbrev pub isLoad : Call → Bool
+isLoad fresh = false
+isLoad (save img) = false
+isLoad (load img) = true
+isLoad (count v) = false
+isLoad (on v d r) = false
+
+abbrev pub NoLoad : List Call → Lent → Type 0
+NoLoad [] x = Unit {0}
+NoLoad (c ∷ cs) x = T (not (isLoad c && isDone (outcomeOn c x .answer))) × NoLoad cs (next c x)
+
+-- ---- what becomes of a call when the opening is struck out: its answer stays; it counts free segments between, and its answer may
+-- differ; it is struck out itself
+
+pub data Fate : Type 0 where
+  stays counts struck : Fate
+
+abbrev pub isCount : Call → Bool
+isCount fresh = false
+isCount (save img) = false
+isCount (load img) = false
+isCount (count u) = true
+isCount (on v d r) = false
+
+abbrev pub leftFate : Call → Fate
+leftFate c = cond (isCount c) counts stays
+
+abbrev pub betweenFate : ℕ → ℕ → Call → Fate
+betweenFate u e c = cond (isOn u e c) struck (leftFate c)
+
+abbrev pub strike : ℕ → ℕ → List Call → List Call
+strike u e [] = []
+strike u e (c ∷ cs) = cond (isOn u e c) (strike u e cs) (c ∷ strike u e cs)
+
+-- what is told of the calls that stay, in order
+abbrev pub heard : List Fate → List Report → List Report
+heard [] l = []
+heard (f ∷ fs) [] = []
+heard (stays ∷ fs) (a ∷ l) = a ∷ heard fs l
+heard (counts ∷ fs) (a ∷ l) = heard fs l
+heard (struck ∷ fs) (a ∷ l) = heard fs l
+
+-- ---- a history in which an opening is abandoned
+
+pub record Story : Type 0 where
+  pub before : List Call
+  pub user : ℕ
+  pub entry : ℕ
+  pub way : Way
+  pub between : List Call
+  pub later : List Call
+
+abbrev pub opening : Story → Call
+opening h = on (h .user) (h .entry) (opens (h .way))
+
+abbrev pub abandoning : Story → Call
+abandoning h = on (h .user) (h .entry) abandons
+
+abbrev pub whole : Story → List Call
+whole h = h .before ++ opening h ∷ (h .between ++ abandoning h ∷ h .later)
+
+abbrev pub rest : Story → List Call
+rest h = h .before ++ (strike (h .user) (h .entry) (h .between) ++ h .later)
+
+abbrev pub allStay : List Call → List Fate
+allStay cs = map (λ c. stays) cs
+
+abbrev pub wholeFates : Story → List Fate
+wholeFates h = allStay (h .before) ++ struck ∷ (map (betweenFate (h .user) (h .entry)) (h .between) ++ struck ∷ allStay (h .later))
+
+abbrev pub restFates : Story → List Fate
+restFates h = allStay (h .before) ++ (map leftFate (strike (h .user) (h .entry) (h .between)) ++ allStay (h .later))
+
+-- the opening is done, it goes on till the abandonment, and the others are not crowded out by it
+pub record Abandoned (h : Story) (x : Lent) : Type 0 where
+  pub opened : T (isDone (outcomeOn (opening h) (final (h .before) x) .answer))
+  pub quietly : Quiet (h .user) (h .entry) (h .between) (next (opening h) (final (h .before) x))
+  pub noLoad : NoLoad (h .later) (final (h .before ++ opening h ∷ (h .between ++ abandoning h ∷ [])) x)
+
+-- without the opening: the same answers, saved files, permanent files and openings
+pub record NoTrace (h : Story) (x : Lent) : Type 0 where
+  pub sameAnswers : heard (wholeFates h) (toldAll (whole h) x) ≡ heard (restFates h) (toldAll (rest h) x)
+  pub sameState : viewOn (final (whole h) x) ≡ viewOn (final (rest h) x)
+
+abbrev pub Demand3 : Type 0
+Demand3 = (h : Story) (x : Lent) → Abandoned h x → NoTrace h x

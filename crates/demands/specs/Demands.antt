@@ -1,0 +1,102 @@
+-- What is to be proved of the calls on cells. Assumes nothing.
+use Prim.Native.Nat.{ℕ, _*_, _≤_, _<_}
+use mathlib.Core.Path.{_≡_}
+use mathlib.Core.Logic.{_↔_}
+use mathlib.Core.Bool.{Bool, true, false}
+use mathlib.Core.List.{List, _++_}
+use lib.ListN.{length, getD, take, replicate}
+use Rattle.combine.specs.Below.{countBelow}
+use Rattle.combine.specs.Verdict.{done, isDone}
+use Rattle.combine.specs.Outcome.{outcomeOf}
+use Rattle.placing.specs.Sizes.{tablesLength}
+use Rattle.rules.specs.Calls.{Call, fresh, save, load, count, on}
+use Rattle.rules.specs.House.{closedDown}
+use Rattle.segments.specs.Free.{isFree}
+use Rattle.tables.specs.Layout.{segmentsIn}
+use Rattle.tables.specs.Lists.{heldIn, listed}
+use Rattle.image.specs.Image.{form1, imageLength, imageb}
+use Rattle.cells.specs.Says.{houseOf}
+use Rattle.cells.specs.Outcomes.{Lent, lent, soundLent, freeOut, loadOut, saved, saveOut}
+use Rattle.model.specs.Model.{Model, model}
+use Rattle.model.specs.Step.{Report, step, stepTold}
+use Rattle.model.specs.View.{filesIn}
+use Rattle.demands.specs.History.{outcomeOn, next, toldOf, viewOn, toldAll, final, seenAll, modelTold, modelFinal}
+
+-- the tables of x are sound beside its store
+abbrev pub Sound : Lent → Type 0
+Sound x = soundLent (x .store) (x .tables) ≡ true
+
+-- ---- soundness and frames
+
+-- "Every call leaves sound tables sound."
+abbrev pub KeepsSound : Type 0
+KeepsSound = (c : Call) (x : Lent) → Sound x → Sound (next c x)
+
+-- a call that is done leaves sound tables, whatever they held
+abbrev pub DoneIsSound : Type 0
+DoneIsSound = (c : Call) (x : Lent) → isDone (outcomeOn c x .answer) ≡ true → Sound (next c x)
+
+-- the lent slices keep their lengths
+abbrev pub KeepsLengths : Type 0
+KeepsLengths = (c : Call) (x : Lent) → (length (next c x .store) ≡ length (x .store)) × (length (next c x .tables) ≡ length (x .tables))
+
+-- "cells beyond are never touched"
+abbrev pub KeepsBeyond : Type 0
+KeepsBeyond = (c : Call) (x : Lent) → Sound x → (k : ℕ) → 64 * segmentsIn (x .tables) ≤ k → getD (next c x .store) k 0 ≡ getD (x .store) k 0
+
+-- ---- demand 2: the calls on cells are the calls on the state as its users know it, with the same answers
+
+abbrev pub Refines : Call → Lent → Type 0
+Refines c x = _≡_ {A = Report × Model} (toldOf c x, viewOn (next c x)) (stepTold (filesIn (x .store)) c (viewOn x), step (filesIn (x .store)) c (viewOn x) .after)
+
+abbrev pub Demand2 : Type 0
+Demand2 = (c : Call) (x : Lent) → Sound x → Refines c x
+
+-- "A fresh start and a load don't look at what the tables held"
+abbrev pub starts : Call → Bool
+starts fresh = true
+starts (save img) = false
+starts (load img) = true
+starts (count u) = false
+starts (on u e r) = false
+
+abbrev pub Demand2Start : Type 0
+Demand2Start = (c : Call) (x : Lent) → starts c ≡ true → length (x .tables) ≡ tablesLength → Refines c x
+
+-- over histories
+abbrev pub Demand2History : Type 0
+Demand2History =
+    (cs : List Call) (x : Lent) → Sound x
+    → (toldAll cs x ≡ modelTold (seenAll cs x) (viewOn x)) × (viewOn (final cs x) ≡ modelFinal (seenAll cs x) (viewOn x))
+
+-- ---- save and load
+
+-- save then load: the same permanent files, and nothing open
+abbrev pub SaveThenLoad : Type 0
+SaveThenLoad =
+    (x : Lent) (buffer tables : List ℕ) → Sound x → length buffer ≡ imageLength form1 → length tables ≡ tablesLength
+    → let o = loadOut (x .store) tables (saveOut (x .store) (x .tables) buffer .after .image) in
+    let m = viewOn x in
+    (o ≡ outcomeOf (done 0) (lent (x .store) (take 3201 (x .tables) ++ replicate 1792 0))) × (viewOn (o .after) ≡ model (m .cells) (closedDown (m .house)))
+
+-- the numbers of 32 bits
+abbrev pub AreCells : List ℕ → Type 0
+AreCells l = (k : ℕ) → getD l k 0 < 4294967296
+
+-- load then save: the same cells
+abbrev pub LoadThenSave : Type 0
+LoadThenSave =
+    (x : Lent) (img buffer : List ℕ) → AreCells img → length (x .tables) ≡ tablesLength → imageb form1 (length (x .store)) img ≡ true → length buffer ≡ imageLength form1
+    → let y = loadOut (x .store) (x .tables) img .after in
+    saveOut (y .store) (y .tables) buffer ≡ outcomeOf (done 0) (saved (y .store) (y .tables) img)
+
+-- ---- the free count "equals the segments no list names"
+
+abbrev pub Unnamed : List ℕ → ℕ → Type 0
+Unnamed t g = (i k : ℕ) → i < 96 → k < heldIn t i → listed t i k ≡ g → ⊥
+
+abbrev pub FreeCounted : Type 0
+FreeCounted =
+    (x : Lent) (u : ℕ) → Sound x → u ≤ 7
+    → (freeOut (x .store) (x .tables) u ≡ outcomeOf (done (countBelow (segmentsIn (x .tables)) (isFree (houseOf (x .tables))))) x)
+    × ((g : ℕ) → (isFree (houseOf (x .tables)) g ≡ true) ↔ Unnamed (x .tables) g)

@@ -1,0 +1,53 @@
+-- "A history is a list of calls with the numbers and lists lent to them, an image lent to be read among these; each call gets the
+-- store and tables as the one before left them, and nobody writes there between." Assumes nothing.
+use Prim.Native.Nat.{ℕ}
+use mathlib.Core.Option.{Option}
+use mathlib.Core.List.{List, [], _∷_}
+use Rattle.combine.specs.Outcome.{Outcome}
+use Rattle.rules.specs.Calls.{Call}
+use Rattle.cells.specs.Outcomes.{Lent, callOut, callImage}
+use Rattle.model.specs.Model.{Files, Model}
+use Rattle.model.specs.Step.{Report, report, step, stepTold}
+use Rattle.model.specs.View.{view, filesIn}
+
+-- ---- a call on cells
+
+abbrev pub outcomeOn : Call → Lent → Outcome Lent
+outcomeOn c x = callOut c (x .store) (x .tables)
+
+abbrev pub next : Call → Lent → Lent
+next c x = outcomeOn c x .after
+
+abbrev pub toldOf : Call → Lent → Report
+toldOf c x = report c (outcomeOn c x .answer) (filesIn (x .store) (callImage c (x .store) (x .tables)))
+
+abbrev pub viewOn : Lent → Model
+viewOn x = view (x .store) (x .tables)
+
+-- ---- a history on cells
+
+abbrev pub toldAll : List Call → Lent → List Report
+toldAll [] x = []
+toldAll (c ∷ cs) x = toldOf c x ∷ toldAll cs (next c x)
+
+abbrev pub final : List Call → Lent → Lent
+final [] x = x
+final (c ∷ cs) x = final cs (next c x)
+
+-- ---- the same history as users know it: with each call goes what the lent images hold over the store of that time
+
+pub record Seen : Type 0 where
+  pub call : Call
+  pub look : List ℕ → Option Files
+
+abbrev pub seenAll : List Call → Lent → List Seen
+seenAll [] x = []
+seenAll (c ∷ cs) x = record { call = c; look = filesIn (x .store) } ∷ seenAll cs (next c x)
+
+abbrev pub modelTold : List Seen → Model → List Report
+modelTold [] m = []
+modelTold (c ∷ cs) m = stepTold (c .look) (c .call) m ∷ modelTold cs (step (c .look) (c .call) m .after)
+
+abbrev pub modelFinal : List Seen → Model → Model
+modelFinal [] m = m
+modelFinal (c ∷ cs) m = modelFinal cs (step (c .look) (c .call) m .after)

@@ -1,0 +1,81 @@
+-- The worked examples that document 01 marks, as one list. Assumes nothing.
+use Prim.Native.Nat.{ℕ}
+use mathlib.Core.Path.{_≡_}
+use mathlib.Core.Bool.{false}
+use mathlib.Core.List.{List, [], _∷_}
+use lib.ListN.{replicate}
+use Rattle.combine.specs.Verdict.{Said, done, refused}
+use Rattle.placing.specs.Placing.{segment, position, heldOf, claimOf}
+use Rattle.store.specs.Store.{putElement}
+use Rattle.names.specs.Names.{nameOf}
+use Rattle.rules.specs.Calls.{new, work, read, rename, newPointer, write, next, prev, askBegin, askEnd, opens, closes, abandons, uses}
+use Rattle.examples.specs.Run.{answersIn, imageIn}
+
+-- what the definitions give, and what document 01 says
+pub data Example : Type 0 where
+  numbers : (given said : List ℕ) → Example
+  answered : (given said : List Said) → Example
+
+abbrev pub Holds : Example → Type 0
+Holds (numbers given said) = given ≡ said
+Holds (answered given said) = given ≡ said
+
+abbrev pub AllHold : List Example → Type 0
+AllHold [] = Unit {0}
+AllHold (x ∷ xs) = Holds x × AllHold xs
+
+-- "lift 7" is 21 18 15 29 7 and seven 63s; "Lift" is empty
+abbrev pub lift7 : Example
+lift7 = numbers (nameOf (108 ∷ 105 ∷ 102 ∷ 116 ∷ 32 ∷ 55 ∷ [])) (21 ∷ 18 ∷ 15 ∷ 29 ∷ 7 ∷ replicate 7 63)
+
+abbrev pub lift : Example
+lift = numbers (nameOf (76 ∷ 105 ∷ 102 ∷ 116 ∷ [])) (replicate 12 63)
+
+-- width 4, position 10, element 10, other bits zero: cell 1 is 0x0A000000
+abbrev pub ten : Example
+ten = numbers (putElement (replicate 64 0) 2 (segment 0) (position 10) 10) (0 ∷ 0x0A000000 ∷ replicate 62 0)
+
+-- writing 300 in species 3 stores 44
+abbrev pub loses : Example
+loses = answered (answersIn 64 (opens (new 3) ∷ uses (write 1 300) ∷ uses (next 2) ∷ [])) (done 0 ∷ done 0 ∷ done 44 ∷ [])
+
+-- width 32, b = 64, e = 66: two segments, claim 65; b = e = 65: none, claim 0
+abbrev pub claims : Example
+claims = numbers (heldOf 5 64 66 ∷ claimOf 5 64 66 ∷ heldOf 5 65 65 ∷ claimOf 5 65 65 ∷ []) (2 ∷ 65 ∷ 0 ∷ 0 ∷ [])
+
+-- append 10, 20 to a new file of species 5; prev through 1 gives 20, then 10, then refusal 6
+abbrev pub appends : Example
+appends =
+    answered (answersIn 64 (opens (new 5) ∷ uses (write 1 10) ∷ uses (write 1 20) ∷ uses (prev 1) ∷ uses (prev 1) ∷ uses (prev 1) ∷ []))
+    (done 0 ∷ done 0 ∷ done 0 ∷ done 20 ∷ done 10 ∷ refused 6 ∷ [])
+
+-- own pointer at e, work permit, file not empty: write is 7, prev delivers position e-1 and the length stays
+abbrev pub ownPointer : Example
+ownPointer =
+    answered
+    (answersIn 64
+    (opens (new 5) ∷ uses (write 1 10) ∷ uses (write 1 20) ∷ uses (newPointer 1) ∷ uses (write 3 30) ∷ uses (prev 3) ∷ uses askBegin ∷ uses askEnd ∷ []))
+    (done 0 ∷ done 0 ∷ done 0 ∷ done 3 ∷ refused 7 ∷ done 20 ∷ done 1 ∷ done 3 ∷ [])
+
+-- fresh with 128 segments, saved: 0x01100000, then 896 zero cells
+abbrev pub savedFresh : Example
+savedFresh = numbers (imageIn 8192 []) (0x01100000 ∷ replicate 896 0)
+
+-- that store with one private file "a" of user 2, species 5, b = 1, e = 2, segment 0
+abbrev pub savedFile : Example
+savedFile =
+    numbers (imageIn 8192 (opens (new 5) ∷ uses (write 1 10) ∷ uses (rename (97 ∷ [])) ∷ closes false ∷ []))
+    (0x01100000 ∷ 0x95FFFFFF ∷ 0xFFFFFFFF ∷ 0xFFAD0000 ∷ 0x01000002 ∷ replicate 892 0)
+
+-- file 10, 20 opened for work, prev through 1, append 99, abandon: read gives 10, 20
+abbrev pub givenUp : Example
+givenUp =
+    answered
+    (answersIn 128
+    (opens (new 5) ∷ uses (write 1 10) ∷ uses (write 1 20) ∷ uses (rename (97 ∷ [])) ∷ closes false
+    ∷ opens (work (97 ∷ [])) ∷ uses (prev 1) ∷ uses (write 1 99) ∷ abandons
+    ∷ opens (read (97 ∷ [])) ∷ uses (next 2) ∷ uses (next 2) ∷ []))
+    (done 0 ∷ done 0 ∷ done 0 ∷ done 0 ∷ done 0 ∷ done 0 ∷ done 20 ∷ done 0 ∷ done 0 ∷ done 0 ∷ done 10 ∷ done 20 ∷ [])
+
+abbrev pub worked : List Example
+worked = lift7 ∷ lift ∷ ten ∷ loses ∷ claims ∷ appends ∷ ownPointer ∷ savedFresh ∷ savedFile ∷ givenUp ∷ []

@@ -1,0 +1,2 @@
+-- Names. Assumes nothing.
+pub mod Names

@@ -1,0 +1,2 @@
+-- What the code of `packing` is. Assumes nothing.
+pub mod Shifts

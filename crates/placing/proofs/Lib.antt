@@ -1,0 +1,2 @@
+-- What the code of `placing` is. Assumes nothing.
+pub mod Laws

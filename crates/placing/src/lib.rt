@@ -1,0 +1,162 @@
+// "Segment numbers, positions and cell numbers are different kinds of number and are never to be mixed": each is a struct with a
+// private field, and one is made of another by the placing rules alone.
+ghost use mathlib.Core.Path.{_≡_};
+ghost use Prim.Native.Nat.{_≤_, _<_, _*_};
+ghost use Rattle.placing.specs.Sizes.{segmentCells, greatestEnd, greatestSpecies, widthOf, elementsOf};
+ghost use Rattle.placing.specs.Placing.{
+  segment,
+  position,
+  stretchOf,
+  offsetOf,
+  cellOf,
+  bitOf,
+  heldOf,
+  claimOf,
+  listPlace,
+};
+
+// "Species 0 to 5 have elements of 1, 2, 4, 8, 16 and 32 bits"
+pub const WIDTHS: [u32; 6] = [1, 2, 4, 8, 16, 32];
+
+// "so E = 2048, 1024, 512, 256, 128 and 64 elements in a segment"
+pub const ELEMENTS: [u32; 6] = [2048, 1024, 512, 256, 128, 64];
+
+// The number of a segment of the store.
+pub struct Segment(u32);
+
+// A position of a file; in a pointer's place, 0 is no pointer.
+pub struct Position(u32);
+
+// The number of a cell of the store.
+pub struct Cell(usize);
+
+pub fn width(species: u32) -> u32
+    requires { ⌜ species ≤ greatestSpecies ⌝ }
+    ensures { λ r. ⌜ r ≡ widthOf species ⌝ }
+{
+    WIDTHS[species as usize]
+}
+
+pub fn elements(species: u32) -> u32
+    requires { ⌜ species ≤ greatestSpecies ⌝ }
+    ensures { λ r. ⌜ (r ≡ elementsOf species) × (64 ≤ r) ⌝ }
+{
+    ELEMENTS[species as usize]
+}
+
+impl Segment {
+    // A segment by its number, as a list has it.
+    pub fn of(number: u32) -> Segment
+        ensures { λ r. ⌜ r ≡ segment number ⌝ }
+    {
+        Segment(number)
+    }
+
+    pub fn number(self) -> u32
+        ensures { λ r. ⌜ r ≡ self .0 ⌝ }
+    {
+        self.0
+    }
+
+    // The segment's first cell.
+    pub fn start(self) -> Cell
+        ensures { λ r. ⌜ r .0 ≡ self .0 * segmentCells ⌝ }
+    {
+        Cell((self.0 as usize) * 64)
+    }
+
+    // "it is in cell floor(o·w/32) of that stretch's segment"
+    pub fn cell(self, position: Position, species: u32) -> Cell
+        requires { ⌜ (1 ≤ position .0) × (species ≤ greatestSpecies) ⌝ }
+        ensures { λ r. ⌜ r ≡ cellOf species self position ⌝ }
+    {
+        let before = position.bits_before(species);
+        Cell((self.0 as usize) * 64 + (before / 32) as usize)
+    }
+}
+
+impl Position {
+    // A position by its number, as a pointer has it.
+    pub fn of(number: u32) -> Position
+        ensures { λ r. ⌜ r ≡ position number ⌝ }
+    {
+        Position(number)
+    }
+
+    pub fn number(self) -> u32
+        ensures { λ r. ⌜ r ≡ self .0 ⌝ }
+    {
+        self.0
+    }
+
+    // "Position x lies in the file's stretch floor((x-1)/E)"
+    pub fn stretch(self, species: u32) -> u32
+        requires { ⌜ (1 ≤ self .0) × (species ≤ greatestSpecies) ⌝ }
+        ensures { λ r. ⌜ r ≡ stretchOf species (self .0) ⌝ }
+    {
+        (self.0 - 1) / elements(species)
+    }
+
+    // o·w: "at offset o = (x-1) mod E. With width w"
+    fn bits_before(self, species: u32) -> u32
+        requires { ⌜ (1 ≤ self .0) × (species ≤ greatestSpecies) ⌝ }
+        ensures { λ r. ⌜ (r ≡ offsetOf species (self .0) * widthOf species) × (r < 2048) ⌝ }
+    {
+        ((self.0 - 1) % elements(species)) * width(species)
+    }
+
+    // "its top bit (o·w mod 32) bits below the cell's top bit"
+    pub fn bit(self, species: u32) -> u32
+        requires { ⌜ (1 ≤ self .0) × (species ≤ greatestSpecies) ⌝ }
+        ensures { λ r. ⌜ r ≡ bitOf species self ⌝ }
+    {
+        self.bits_before(species) % 32
+    }
+
+    // The place of the position's stretch in the list of the segments of a file that begins at `begin`.
+    pub fn list_place(self, begin: Position, species: u32) -> u32
+        requires { ⌜ (1 ≤ begin .0) × (begin .0 ≤ self .0) × (species ≤ greatestSpecies) ⌝ }
+        ensures { λ r. ⌜ r ≡ listPlace species (begin .0) (self .0) ⌝ }
+    {
+        let first = begin.stretch(species);
+        self.stretch(species) - first
+    }
+}
+
+impl Cell {
+    // The cell's place in the lent store.
+    pub fn index(self) -> usize
+        ensures { λ r. ⌜ r ≡ self .0 ⌝ }
+    {
+        self.0
+    }
+}
+
+// "A file holds one segment for each stretch with at least one of its positions, and no other; an empty file holds none."
+pub fn held(species: u32, begin: Position, end: Position) -> u32
+    requires { ⌜ (species ≤ greatestSpecies) × (1 ≤ begin .0) × (begin .0 ≤ end .0) × (end .0 ≤ greatestEnd) ⌝ }
+    ensures { λ r. ⌜ r ≡ heldOf species (begin .0) (end .0) ⌝ }
+{
+    let first = begin.0;
+    let beyond = end.0;
+    if first == beyond {
+        return 0;
+    }
+    let last = Position(beyond - 1);
+    last.list_place(begin, species) + 1
+}
+
+// "The claim is the number of positions from b to the end of the last held stretch, 0 for an empty file."
+pub fn claim(species: u32, begin: Position, end: Position) -> u32
+    requires { ⌜ (species ≤ greatestSpecies) × (1 ≤ begin .0) × (begin .0 ≤ end .0) × (end .0 ≤ greatestEnd) ⌝ }
+    ensures { λ r. ⌜ r ≡ claimOf species (begin .0) (end .0) ⌝ }
+{
+    let first = begin.0;
+    let beyond = end.0;
+    if first == beyond {
+        return 0;
+    }
+    let greatest = Position(beyond - 1);
+    let stretches = greatest.stretch(species) + 1;
+    stretches * elements(species) + 1 - first
+}

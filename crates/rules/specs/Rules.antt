@@ -1,0 +1,118 @@
+-- "Opening, closing, abandoning", and the rule of every request: which refusal, or which effect. u is the user, rs the headings of the
+-- catalogue's places. Assumes nothing.
+use Prim.Native.Nat.{ℕ}
+use mathlib.Core.Bool.{Bool, true, false, not, _&&_, _||_, cond}
+use mathlib.Core.Option.{Option, none, some}
+use mathlib.Core.List.{List, _∷_}
+use lib.Dec.{leb, ltb, eqb}
+use lib.ListN.{length, getD, set, replicate}
+use Rattle.combine.specs.Lists.{any, firstWhere, same}
+use Rattle.combine.specs.Verdict.{Verdict, refused, done, onDone, refuse_when_else_}
+use Rattle.placing.specs.Sizes.{greatestSpecies}
+use Rattle.names.specs.Names.{nameOf, scratchName, isScratch}
+use Rattle.rules.specs.Calls.{Way, new, work, read, Request, opens, closes, abandons, uses}
+use Rattle.rules.specs.Headings.{Heading, Handle, value, passes, isSome}
+use Rattle.rules.specs.Effects.{Effect, opensNew, opensOld, ended, unfiled, filed, used, Others}
+use Rattle.rules.specs.Access.{acting}
+
+-- ---- the catalogue
+
+abbrev pub hasName : List ℕ → Heading → Bool
+hasName n r = same (r .name) n
+
+abbrev pub isOwn : ℕ → List ℕ → Heading → Bool
+isOwn u n r = eqb (r .owner) u && hasName n r
+
+abbrev pub isPublic : List ℕ → Heading → Bool
+isPublic n r = not (r .private) && hasName n r
+
+-- "Look-up takes the user's own record of that name first, then a public one": its place; the number of places, where there is neither
+unfoldable pub lookUp : ℕ → List ℕ → List (Option Heading) → ℕ
+lookUp u n rs =
+    let own = firstWhere (passes (isOwn u n)) rs in
+    cond (ltb own (length rs)) own (firstWhere (passes (isPublic n)) rs)
+
+-- ---- opening: "then for an opening 3, then 19 (new) or 15, 11/12/13, 14 (old)"
+
+-- "New makes an empty scratch file with work permit."; "It starts with b = e = 1."
+unfoldable pub openNew : ℕ → Verdict Effect
+openNew s =
+    refuse 19 when ltb greatestSpecies s else
+    done (opensNew (record { place = none; permit = true; name = scratchName; species = s; pointers = 1 ∷ 1 ∷ 1 ∷ replicate 5 0 }))
+
+-- "On opening, the work pointer stands at the begin value."; w says that the file is opened for work
+unfoldable pub openedAs : Bool → ℕ → Heading → Handle
+openedAs w p r = record { place = some p; permit = w; name = r .name; species = r .species; pointers = r .begin ∷ r .end ∷ r .begin ∷ replicate 5 0 }
+
+-- "Then 14: for work, if any opening of that record exists; for read, if a work opening of it exists."
+abbrev pub busy : Bool → ℕ → Others → Bool
+busy true p o = o .opened p
+busy false p o = o .worked p
+
+-- "else 11. Work on another's public file: 13."
+abbrev pub openRecord : Bool → ℕ → ℕ → Option Heading → Others → Verdict Effect
+openRecord w u p none o = refused 11
+openRecord w u p (some r) o =
+    refuse 13 when w && not (eqb (r .owner) u) else
+    refuse 14 when busy w p o else
+    done (opensOld p (openedAs w p r))
+
+-- "If neither is there: 12 when another user has a private file of that name"
+unfoldable pub openOld : Bool → ℕ → List ℕ → List (Option Heading) → Others → Verdict Effect
+openOld w u n rs o =
+    let p = lookUp u n rs in
+    refuse 15 when isScratch n else
+    refuse 12 when leb (length rs) p && any (passes (hasName n)) rs else
+    openRecord w u p (getD rs p none) o
+
+abbrev pub openWay : Way → ℕ → List (Option Heading) → Others → Verdict Effect
+openWay (new s) u rs o = openNew s
+openWay (work bytes) u rs o = openOld true u (nameOf bytes) rs o
+openWay (read bytes) u rs o = openOld false u (nameOf bytes) rs o
+
+-- ---- closing: "for close 18, 16, 17"
+
+-- "name, privacy, species, begin, end and segments become the record"
+unfoldable pub headed : Bool → ℕ → Handle → Heading
+headed public u h = record { owner = u; name = h .name; private = not public; species = h .species; begin = value h 0; end = value h 1 }
+
+-- the other records
+abbrev pub without : List (Option Heading) → Option ℕ → List (Option Heading)
+without rs none = rs
+without rs (some p) = set rs p none
+
+-- "become the record, a new file in the lowest free place": the number of places, where none is free
+abbrev pub placeFor : List (Option Heading) → Option ℕ → ℕ
+placeFor rs none = firstWhere (λ r. not (isSome r)) rs
+placeFor rs (some p) = p
+
+-- "New scratch: the file vanishes. Old work renamed to scratch: its record and all segments are freed."
+abbrev pub vanish : Option ℕ → Effect
+vanish none = ended
+vanish (some p) = unfiled p
+
+-- "16 is given exactly if the close would write a record and another record has the same owner and name, or public is asked and another
+-- public record has the name."; "Read: the opening ends."
+unfoldable pub closing : Bool → ℕ → List (Option Heading) → Handle → Verdict Effect
+closing public u rs h =
+    let scratch = isScratch (h .name) in
+    let files = h .permit && not scratch in
+    let others = without rs (h .place) in
+    let p = placeFor rs (h .place) in
+    refuse 18 when public && (not (h .permit) || scratch) else
+    refuse 16 when files && (any (passes (isOwn u (h .name))) others || public && any (passes (isPublic (h .name))) others) else
+    refuse 17 when files && leb (length rs) p else
+    done (cond files (filed p (headed public u h)) (cond (h .permit) (vanish (h .place)) ended))
+
+-- ---- the rule of a request, by the entry's handle: 3 where the entry is open at an opening, 2 where it is not open and must be;
+-- "Abandon: the opening ends"
+
+abbrev pub rule : Request → ℕ → List (Option Heading) → Option Handle → (ℕ → Bool) → Others → Verdict Effect
+rule (opens w) u rs none takes o = openWay w u rs o
+rule (opens w) u rs (some h) takes o = refused 3
+rule (closes public) u rs none takes o = refused 2
+rule (closes public) u rs (some h) takes o = closing public u rs h
+rule abandons u rs none takes o = refused 2
+rule abandons u rs (some h) takes o = done ended
+rule (uses a) u rs none takes o = refused 2
+rule (uses a) u rs (some h) takes o = onDone used (acting a takes (o .room) h)

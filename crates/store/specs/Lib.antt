@@ -1,0 +1,2 @@
+-- What a store of cells holds. Assumes nothing.
+pub mod Store

@@ -1,0 +1,33 @@
+-- What a store of cells holds: st is its cells, s a species, g a segment. Assumes nothing.
+use Prim.Native.Nat.{ℕ, _+_, _-_, _*_}
+use mathlib.Core.List.{List}
+use lib.ListN.{getD, set, drop, replicate}
+use lib.Seq.{paste}
+use Rattle.combine.specs.Lists.{tab}
+use Rattle.placing.specs.declared.Segment.{Segment}
+use Rattle.placing.specs.declared.Position.{Position}
+use Rattle.placing.specs.Sizes.{segmentCells, widthOf}
+use Rattle.placing.specs.Placing.{segment, position, cellOf, bitOf, listPlace}
+use Rattle.packing.specs.Packing.{takeBits, putBits}
+
+-- the element at position x, whose stretch is in segment g; and the store with it replaced
+unfoldable pub elementAt : List ℕ → ℕ → Segment → Position → ℕ
+elementAt st s g x = takeBits (widthOf s) (bitOf s x) (getD st (cellOf s g x .0) 0)
+
+unfoldable pub putElement : List ℕ → ℕ → Segment → Position → ℕ → List ℕ
+putElement st s g x n = set st (cellOf s g x .0) (putBits (widthOf s) (bitOf s x) (getD st (cellOf s g x .0) 0) n)
+
+-- the store with the 64 cells of g zero, and with those of f in g
+unfoldable pub zeroed : List ℕ → Segment → List ℕ
+zeroed st g = paste st (g .0 * segmentCells) (replicate segmentCells 0) segmentCells
+
+unfoldable pub copied : List ℕ → Segment → Segment → List ℕ
+copied st f g = paste st (g .0 * segmentCells) (drop (f .0 * segmentCells) st) segmentCells
+
+-- the segment of position x, in the list of the segment numbers of a file that begins at b
+unfoldable pub segmentOf : List ℕ → ℕ → ℕ → ℕ → ℕ
+segmentOf gs s b x = getD gs (listPlace s b x) 0
+
+-- the elements of a file, positions b to e - 1
+unfoldable pub elementsIn : List ℕ → List ℕ → ℕ → ℕ → ℕ → List ℕ
+elementsIn st gs s b e = tab (e - b) (λ i. elementAt st s (segment (segmentOf gs s b (b + i))) (position (b + i)))

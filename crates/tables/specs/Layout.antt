@@ -1,0 +1,89 @@
+-- Where records and openings lie in the cells t of the tables: cell 0 is the number of segments, record p starts at 1 + 50 p,
+-- opening i at 3201 + 56 i. Assumes nothing.
+use Prim.Native.Nat.{ℕ, _+_, _*_}
+use mathlib.Core.List.{List, [], _∷_, _++_, map}
+use lib.ListN.{getD, replicate}
+use lib.Seq.{paste}
+use Rattle.combine.specs.Lists.{part}
+use Rattle.placing.specs.declared.Segment.{Segment}
+use Rattle.placing.specs.declared.Position.{Position}
+use Rattle.placing.specs.Placing.{segment, position}
+use Rattle.tables.specs.declared.Record.{Record}
+use Rattle.tables.specs.declared.Opening.{Opening}
+
+abbrev pub segmentNumber : Segment → ℕ
+segmentNumber g = g .0
+
+abbrev pub positionNumber : Position → ℕ
+positionNumber x = x .0
+
+abbrev pub recordBase : ℕ → ℕ
+recordBase p = 1 + 50 * p
+
+abbrev pub openingBase : ℕ → ℕ
+openingBase i = 3201 + 56 * i
+
+abbrev pub segmentsIn : List ℕ → ℕ
+segmentsIn t = getD t 0 0
+
+-- nothing is there, and nothing is open
+unfoldable pub freshTables : ℕ → List ℕ
+freshTables n = n ∷ replicate 4992 0
+
+-- ---- a record of 50 numbers, in the image's order: "used 1, name 12 x 6, owner 3, private 1, species 3, begin 24, end 24, then 32
+-- segment numbers"
+
+unfoldable pub recordOf : List ℕ → Record
+recordOf c =
+    record {
+      used = getD c 0 0;
+      name = part c 1 12;
+      owner = getD c 13 0;
+      private = getD c 14 0;
+      species = getD c 15 0;
+      begin = position (getD c 16 0);
+      end = position (getD c 17 0);
+      segments = map segment (part c 18 32);
+    }
+
+unfoldable pub recordCells : Record → List ℕ
+recordCells r =
+    r .used ∷ (r .name ++ (r .owner ∷ r .private ∷ r .species ∷ r .begin .0 ∷ r .end .0 ∷ map segmentNumber (r .segments)))
+
+unfoldable pub recordAt : List ℕ → ℕ → Record
+recordAt t p = recordOf (part t (recordBase p) 50)
+
+unfoldable pub putRecord : List ℕ → ℕ → Record → List ℕ
+putRecord t p r = paste t (recordBase p) (recordCells r) 50
+
+-- "an unused record is all zero"
+unfoldable pub unusedRecord : Record
+unusedRecord = record { used = 0; name = replicate 12 0; owner = 0; private = 0; species = 0; begin = position 0; end = position 0; segments = replicate 32 (segment 0) }
+
+-- ---- an opening of 56 numbers
+
+unfoldable pub openingOf : List ℕ → Opening
+openingOf c =
+    record {
+      opened = getD c 0 0;
+      place = getD c 1 0;
+      permit = getD c 2 0;
+      species = getD c 3 0;
+      pointers = map position (part c 4 8);
+      name = part c 12 12;
+      segments = map segment (part c 24 32);
+    }
+
+unfoldable pub openingCells : Opening → List ℕ
+openingCells o =
+    (o .opened ∷ o .place ∷ o .permit ∷ o .species ∷ []) ++ (map positionNumber (o .pointers) ++ (o .name ++ map segmentNumber (o .segments)))
+
+unfoldable pub openingAt : List ℕ → ℕ → Opening
+openingAt t i = openingOf (part t (openingBase i) 56)
+
+unfoldable pub putOpening : List ℕ → ℕ → Opening → List ℕ
+putOpening t i o = paste t (openingBase i) (openingCells o) 56
+
+-- a closed entry is all zero too
+unfoldable pub closedOpening : Opening
+closedOpening = record { opened = 0; place = 0; permit = 0; species = 0; pointers = replicate 8 (position 0); name = replicate 12 0; segments = replicate 32 (segment 0) }
