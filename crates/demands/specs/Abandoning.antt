@@ -1,4 +1,5 @@
--- Demand 3: an opening that is abandoned leaves no trace. Assumes nothing.
+-- Demand 3: an opening that is abandoned leaves no trace. "Demand 3 is stated over the histories of demand 2, never over a store that ignores
+-- its calls." Assumes nothing.
 use Prim.Native.Nat.{ℕ}
 use mathlib.Core.Path.{_≡_}
 use mathlib.Core.Bool.{Bool, true, false, not, _&&_, _||_, cond}
@@ -6,9 +7,11 @@ use mathlib.Core.List.{List, [], _∷_, _++_, map}
 use lib.Dec.{T, eqb}
 use Rattle.combine.specs.Verdict.{Said, done, refused, isDone}
 use Rattle.rules.specs.Calls.{Way, Request, opens, closes, abandons, uses, Call, fresh, save, load, count, on}
+use Rattle.segments.specs.Free.{freeCount}
+use Rattle.cells.specs.Says.{houseOf}
 use Rattle.cells.specs.Outcomes.{Lent}
 use Rattle.model.specs.Step.{Report}
-use Rattle.demands.specs.History.{outcomeOn, next, viewOn, toldAll, final}
+use Rattle.demands.specs.History.{outcomeOn, afterCall, viewOn, toldAll, final}
 
 -- ---- calls between an opening of user u by entry e and its abandonment
 
@@ -45,7 +48,7 @@ quiet u e c a = not (ends u e c && isDone a) && (isOn u e c || not (crowded a))
 
 abbrev pub Quiet : ℕ → ℕ → List Call → Lent → Type 0
 Quiet u e [] x = Unit {0}
-Quiet u e (c ∷ cs) x = T (quiet u e c (outcomeOn c x .answer)) × Quiet u e cs (next c x)
+Quiet u e (c ∷ cs) x = T (quiet u e c (outcomeOn c x .answer)) × Quiet u e cs (afterCall c x)
 
 -- a load that is done reads what cells freed segments were left with, and these may differ
 abbrev pub isLoad : Call → Bool
@@ -57,7 +60,7 @@ isLoad (on v d r) = false
 
 abbrev pub NoLoad : List Call → Lent → Type 0
 NoLoad [] x = Unit {0}
-NoLoad (c ∷ cs) x = T (not (isLoad c && isDone (outcomeOn c x .answer))) × NoLoad cs (next c x)
+NoLoad (c ∷ cs) x = T (not (isLoad c && isDone (outcomeOn c x .answer))) × NoLoad cs (afterCall c x)
 
 -- ---- what becomes of a call when the opening is struck out: its answer stays; it counts free segments between, and its answer may
 -- differ; it is struck out itself
@@ -124,13 +127,15 @@ restFates h = allStay (h .before) ++ (map leftFate (strike (h .user) (h .entry) 
 -- the opening is done, it goes on till the abandonment, and the others are not crowded out by it
 pub record Abandoned (h : Story) (x : Lent) : Type 0 where
   pub opened : T (isDone (outcomeOn (opening h) (final (h .before) x) .answer))
-  pub quietly : Quiet (h .user) (h .entry) (h .between) (next (opening h) (final (h .before) x))
+  pub quietly : Quiet (h .user) (h .entry) (h .between) (afterCall (opening h) (final (h .before) x))
   pub noLoad : NoLoad (h .later) (final (h .before ++ opening h ∷ (h .between ++ abandoning h ∷ [])) x)
 
--- without the opening: the same answers, saved files, permanent files and openings
+-- without the opening: "every remaining call gets the same answer, and permanent files, other openings and the number of free segments are
+-- the same at the end"; of a saved image all but the segment numbers
 pub record NoTrace (h : Story) (x : Lent) : Type 0 where
   pub sameAnswers : heard (wholeFates h) (toldAll (whole h) x) ≡ heard (restFates h) (toldAll (rest h) x)
   pub sameState : viewOn (final (whole h) x) ≡ viewOn (final (rest h) x)
+  pub sameFree : freeCount (houseOf (final (whole h) x .tables)) ≡ freeCount (houseOf (final (rest h) x .tables))
 
 abbrev pub Demand3 : Type 0
 Demand3 = (h : Story) (x : Lent) → Abandoned h x → NoTrace h x

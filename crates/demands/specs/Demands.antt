@@ -6,7 +6,7 @@ use mathlib.Core.Bool.{Bool, true, false}
 use mathlib.Core.List.{List, _++_}
 use lib.ListN.{length, getD, take, replicate}
 use Rattle.combine.specs.Below.{countBelow}
-use Rattle.combine.specs.Verdict.{done, isDone}
+use Rattle.combine.specs.Verdict.{done, refused, isDone}
 use Rattle.combine.specs.Outcome.{outcomeOf}
 use Rattle.placing.specs.Sizes.{tablesLength}
 use Rattle.rules.specs.Calls.{Call, fresh, save, load, count, on}
@@ -20,7 +20,7 @@ use Rattle.cells.specs.Outcomes.{Lent, lent, soundLent, freeOut, loadOut, saved
 use Rattle.model.specs.Model.{Model, model}
 use Rattle.model.specs.Step.{Report, step, stepTold}
 use Rattle.model.specs.View.{filesIn}
-use Rattle.demands.specs.History.{outcomeOn, next, toldOf, viewOn, toldAll, final, seenAll, modelTold, modelFinal}
+use Rattle.demands.specs.History.{outcomeOn, afterCall, toldOf, viewOn, toldAll, final, seenAll, modelTold, modelFinal}
 
 -- the tables of x are sound beside its store
 abbrev pub Sound : Lent → Type 0
@@ -30,24 +30,24 @@ Sound x = soundLent (x .store) (x .tables) ≡ true
 
 -- "Every call leaves sound tables sound."
 abbrev pub KeepsSound : Type 0
-KeepsSound = (c : Call) (x : Lent) → Sound x → Sound (next c x)
+KeepsSound = (c : Call) (x : Lent) → Sound x → Sound (afterCall c x)
 
 -- a call that is done leaves sound tables, whatever they held
 abbrev pub DoneIsSound : Type 0
-DoneIsSound = (c : Call) (x : Lent) → isDone (outcomeOn c x .answer) ≡ true → Sound (next c x)
+DoneIsSound = (c : Call) (x : Lent) → isDone (outcomeOn c x .answer) ≡ true → Sound (afterCall c x)
 
 -- the lent slices keep their lengths
 abbrev pub KeepsLengths : Type 0
-KeepsLengths = (c : Call) (x : Lent) → (length (next c x .store) ≡ length (x .store)) × (length (next c x .tables) ≡ length (x .tables))
+KeepsLengths = (c : Call) (x : Lent) → (length (afterCall c x .store) ≡ length (x .store)) × (length (afterCall c x .tables) ≡ length (x .tables))
 
 -- "cells beyond are never touched"
 abbrev pub KeepsBeyond : Type 0
-KeepsBeyond = (c : Call) (x : Lent) → Sound x → (k : ℕ) → 64 * segmentsIn (x .tables) ≤ k → getD (next c x .store) k 0 ≡ getD (x .store) k 0
+KeepsBeyond = (c : Call) (x : Lent) → Sound x → (k : ℕ) → 64 * segmentsIn (x .tables) ≤ k → getD (afterCall c x .store) k 0 ≡ getD (x .store) k 0
 
 -- ---- demand 2: the calls on cells are the calls on the state as its users know it, with the same answers
 
 abbrev pub Refines : Call → Lent → Type 0
-Refines c x = _≡_ {A = Report × Model} (toldOf c x, viewOn (next c x)) (stepTold (filesIn (x .store)) c (viewOn x), step (filesIn (x .store)) c (viewOn x) .after)
+Refines c x = _≡_ {A = Report × Model} (toldOf c x, viewOn (afterCall c x)) (stepTold (filesIn (x .store)) c (viewOn x), step (filesIn (x .store)) c (viewOn x) .after)
 
 abbrev pub Demand2 : Type 0
 Demand2 = (c : Call) (x : Lent) → Sound x → Refines c x
@@ -62,6 +62,10 @@ starts (on u e r) = false
 
 abbrev pub Demand2Start : Type 0
 Demand2Start = (c : Call) (x : Lent) → starts c ≡ true → length (x .tables) ≡ tablesLength → Refines c x
+
+-- on any other tables: "tables of wrong length or unsound, or store under 64 cells"
+abbrev pub RefusesUnsound : Type 0
+RefusesUnsound = (c : Call) (x : Lent) → starts c ≡ false → soundLent (x .store) (x .tables) ≡ false → outcomeOn c x ≡ outcomeOf (refused 20) x
 
 -- over histories
 abbrev pub Demand2History : Type 0

@@ -15,8 +15,8 @@ use Rattle.model.specs.View.{view, filesIn}
 abbrev pub outcomeOn : Call → Lent → Outcome Lent
 outcomeOn c x = callOut c (x .store) (x .tables)
 
-abbrev pub next : Call → Lent → Lent
-next c x = outcomeOn c x .after
+abbrev pub afterCall : Call → Lent → Lent
+afterCall c x = outcomeOn c x .after
 
 abbrev pub toldOf : Call → Lent → Report
 toldOf c x = report c (outcomeOn c x .answer) (filesIn (x .store) (callImage c (x .store) (x .tables)))
@@ -28,11 +28,11 @@ viewOn x = view (x .store) (x .tables)
 
 abbrev pub toldAll : List Call → Lent → List Report
 toldAll [] x = []
-toldAll (c ∷ cs) x = toldOf c x ∷ toldAll cs (next c x)
+toldAll (c ∷ cs) x = toldOf c x ∷ toldAll cs (afterCall c x)
 
 abbrev pub final : List Call → Lent → Lent
 final [] x = x
-final (c ∷ cs) x = final cs (next c x)
+final (c ∷ cs) x = final cs (afterCall c x)
 
 -- ---- the same history as users know it: with each call goes what the lent images hold over the store of that time
 
@@ -42,7 +42,7 @@ pub record Seen : Type 0 where
 
 abbrev pub seenAll : List Call → Lent → List Seen
 seenAll [] x = []
-seenAll (c ∷ cs) x = record { call = c; look = filesIn (x .store) } ∷ seenAll cs (next c x)
+seenAll (c ∷ cs) x = record { call = c; look = filesIn (x .store) } ∷ seenAll cs (afterCall c x)
 
 abbrev pub modelTold : List Seen → Model → List Report
 modelTold [] m = []

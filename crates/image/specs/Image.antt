@@ -19,7 +19,7 @@ pub record Form : Type 0 where
   pub widths : List ℕ
   pub cells : ℕ
 
--- "64 records of 448 bits: used 1, name 12 x 6, owner 3, private 1, species 3, begin 24, end 24, then 32 segment numbers of 10 bits by
+-- "Then 64 records of 448 bits: used 1, name 12 x 6, owner 3, private 1, species 3, begin 24, end 24, then 32 segment numbers of 10 bits by
 -- rising stretch."
 unfoldable pub recordWidths : List ℕ
 recordWidths = 1 ∷ (replicate 12 6 ++ (3 ∷ 1 ∷ 3 ∷ 24 ∷ 24 ∷ replicate 32 10))
@@ -27,7 +27,7 @@ recordWidths = 1 ∷ (replicate 12 6 ++ (3 ∷ 1 ∷ 3 ∷ 24 ∷ 24 ∷ replica
 abbrev pub form1 : Form
 form1 = record { number = 1; widths = recordWidths; cells = 14 }
 
--- "897 cells": cell 0, and the records
+-- cell 0, and the records: 897 cells of form 1
 abbrev pub imageLength : Form → ℕ
 imageLength f = 1 + places * f .cells
 
@@ -35,7 +35,7 @@ imageLength f = 1 + places * f .cells
 unfoldable pub headWidths : List ℕ
 headWidths = 8 ∷ 11 ∷ 13 ∷ []
 
--- ---- from the tables t, "bit-packed, most significant first": "Saving writes the records only, whatever is open."
+-- ---- from the tables t, "897 cells, bit-packed, most significant first": "Saving writes the records only, whatever is open."
 
 unfoldable pub headImage : Form → ℕ → List ℕ
 headImage f n = cellsOf 1 (packed headWidths (f .number ∷ n ∷ 0 ∷ []))

@@ -1,4 +1,5 @@
--- "Where an element lies": s is a species, b and e a file's begin and end, x a position. Assumes nothing.
+-- "Where an element lies": s is a species, x a position. "A file has begin b and end e, b <= e; its positions are b to e-1." Assumes
+-- nothing.
 use Prim.Native.Nat.{ℕ, _+_, _-_, _*_, _/_, _%_}
 use mathlib.Core.Bool.{cond}
 use lib.Dec.{ltb}

@@ -13,7 +13,8 @@ use Rattle.rules.specs.Calls.{Act, rename, reset, newPointer, deletePoin
 use Rattle.rules.specs.Headings.{Handle, value, moved, named}
 use Rattle.rules.specs.Effects.{stays, firstLeaves, lastLeaves, stores, plain, element, Use, does}
 
--- ---- "for a pointer call 4, 5, 6, 7, 10, 8, 9, 21": "Let v be the value of pointer p."
+-- ---- "for a pointer call 4, 5, 6, 7, 10, 8, 9, 21": "Let v be the value of pointer p."; "Write always, next through 0 and prev through 1
+-- need the work permit."
 
 -- "Write: v < b is 6; p not 1 and v >= e is 7. Through 1: append, e grows by 1. Through 0: the first element is dropped, no segment is taken
 -- and no store cell changes. Else position v is replaced. v grows by 1."; "An append refused for 10: e is 16,777,215."
@@ -30,8 +31,7 @@ writing p n takes room h =
     refuse 9 when not (eqb p 0) && takes v && not room else
     done (does (plain 0) (moved h p (v + 1)) (cond (eqb p 0) firstLeaves (stores v n)))
 
--- "Next: v < b is 6, v >= e is 7. Delivers position v, v grows. Through 0 the element leaves the file."; "next through 0 .. need the work
--- permit"
+-- "Next: v < b is 6, v >= e is 7. Delivers position v, v grows. Through 0 the element leaves the file."
 unfoldable pub nexting : ℕ → Handle → Verdict Use
 nexting p h =
     let v = value h p in
@@ -41,8 +41,7 @@ nexting p h =
     refuse 7 when leb (value h 1) v else
     done (does (element v) (moved h p (v + 1)) (cond (eqb p 0) firstLeaves stays))
 
--- "Prev: v <= b is 6, v > e is 7. v falls by 1, delivers that position. Through 1 the element leaves the file."; "prev through 1 need the
--- work permit"
+-- "Prev: v <= b is 6, v > e is 7. v falls by 1, delivers that position. Through 1 the element leaves the file."
 unfoldable pub preving : ℕ → Handle → Verdict Use
 preving p h =
     let v = value h p in

@@ -32,7 +32,7 @@ lookUp u n rs =
     let own = firstWhere (passes (isOwn u n)) rs in
     cond (ltb own (length rs)) own (firstWhere (passes (isPublic n)) rs)
 
--- ---- opening: "then for an opening 3, then 19 (new) or 15, 11/12/13, 14 (old)"
+-- ---- opening: "Order: 20, 1, 2, then for an opening 3, then 19 (new) or 15, 11/12/13, 14 (old)"
 
 -- "New makes an empty scratch file with work permit."; "It starts with b = e = 1."
 unfoldable pub openNew : ℕ → Verdict Effect
@@ -49,7 +49,7 @@ abbrev pub busy : Bool → ℕ → Others → Bool
 busy true p o = o .opened p
 busy false p o = o .worked p
 
--- "else 11. Work on another's public file: 13."
+-- at the place p that look-up found, with no record where it found none: "Work on another's public file: 13."
 abbrev pub openRecord : Bool → ℕ → ℕ → Option Heading → Others → Verdict Effect
 openRecord w u p none o = refused 11
 openRecord w u p (some r) o =
@@ -57,22 +57,28 @@ openRecord w u p (some r) o =
     refuse 14 when busy w p o else
     done (opensOld p (openedAs w p r))
 
--- "If neither is there: 12 when another user has a private file of that name"
+-- "If neither is there: 12 when another user has a private file of that name, else 11."
+abbrev pub isAnothers : ℕ → List ℕ → Heading → Bool
+isAnothers u n r = not (eqb (r .owner) u) && r .private && hasName n r
+
 unfoldable pub openOld : Bool → ℕ → List ℕ → List (Option Heading) → Others → Verdict Effect
 openOld w u n rs o =
     let p = lookUp u n rs in
+    let neither = leb (length rs) p in
     refuse 15 when isScratch n else
-    refuse 12 when leb (length rs) p && any (passes (hasName n)) rs else
+    refuse 12 when neither && any (passes (isAnothers u n)) rs else
     openRecord w u p (getD rs p none) o
 
+-- "Work and read open a permanent file by name."
 abbrev pub openWay : Way → ℕ → List (Option Heading) → Others → Verdict Effect
 openWay (new s) u rs o = openNew s
 openWay (work bytes) u rs o = openOld true u (nameOf bytes) rs o
 openWay (read bytes) u rs o = openOld false u (nameOf bytes) rs o
 
--- ---- closing: "for close 18, 16, 17"
+-- ---- "Close, private or public": "for close 18, 16, 17"
 
--- "name, privacy, species, begin, end and segments become the record"
+-- "Otherwise name, privacy, species, begin, end and segments become the record, a new file in the lowest free place, and replaced segments
+-- become free": the record's heading
 unfoldable pub headed : Bool → ℕ → Handle → Heading
 headed public u h = record { owner = u; name = h .name; private = not public; species = h .species; begin = value h 0; end = value h 1 }
 
@@ -81,7 +87,7 @@ abbrev pub without : List (Option Heading) → Option ℕ → List (Option Headi
 without rs none = rs
 without rs (some p) = set rs p none
 
--- "become the record, a new file in the lowest free place": the number of places, where none is free
+-- its place; the number of places, where none is free
 abbrev pub placeFor : List (Option Heading) → Option ℕ → ℕ
 placeFor rs none = firstWhere (λ r. not (isSome r)) rs
 placeFor rs (some p) = p
@@ -105,7 +111,7 @@ closing public u rs h =
     done (cond files (filed p (headed public u h)) (cond (h .permit) (vanish (h .place)) ended))
 
 -- ---- the rule of a request, by the entry's handle: 3 where the entry is open at an opening, 2 where it is not open and must be;
--- "Abandon: the opening ends"
+-- "Abandon: the opening ends, segments listed only by it become free, the record is untouched."
 
 abbrev pub rule : Request → ℕ → List (Option Heading) → Option Handle → (ℕ → Bool) → Others → Verdict Effect
 rule (opens w) u rs none takes o = openWay w u rs o

@@ -13,7 +13,8 @@ use Rattle.rules.specs.Effects.{Deed, stays, firstLeaves, lastLeaves, stores, T
 use Rattle.rules.specs.Levels.{Level}
 use Rattle.segments.specs.Free.{SegmentRecord, SegmentOpening, SegmentHouse, recordSegments, placeSegments, lowestFree, hasRoom}
 
--- ---- position v of an opening: its stretch has no segment; its segment; that is the record's too
+-- ---- position v of an opening: its stretch has no segment, which is so too where one was dropped ("A shared segment once dropped isn't
+-- taken back."); its segment; that is the record's too
 
 abbrev pub lacks : SegmentOpening → ℕ → Bool
 lacks x v = leb (length (x .content)) (placeIn (x .handle) v)

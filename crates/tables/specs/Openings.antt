@@ -53,6 +53,8 @@ titleb name = nameb name || allBelow 12 (λ k. eqb (getD name k 0) 63)
 unfoldable pub pointersb : Opening → Bool
 pointersb o = allOf (leb 1 (valueOf o 2) ∷ allBelow 6 (λ k. leb (valueOf o (2 + k)) greatestEnd) ∷ [])
 
+-- "its species, begin, end and number of held segments are as for records; the values of pointers ..; all places and segment numbers are in
+-- range"
 unfoldable pub openb : List ℕ → ℕ → Opening → Bool
 openb t i o =
     allOf

@@ -17,7 +17,8 @@ use Rattle.tables.specs.Lists.{distinctb}
 unfoldable pub numberb : ℕ → ℕ → Bool
 numberb n cells = allOf (leb 1 n ∷ leb n mostSegments ∷ leb (segmentCells * n) cells ∷ [])
 
--- the tables t are sound beside a store of so many cells
+-- the tables t are sound beside a store of so many cells, and that has 64 or more: "the records are sound as below; each opening ..;
+-- segments in all lists are distinct ..; the number of segments is 1 to 1,024 and fits the store"
 unfoldable pub soundb : ℕ → List ℕ → Bool
 soundb cells t =
     allOf
