@@ -1,2 +1,3 @@
 -- Names. Assumes nothing.
 pub mod Names
+pub mod Symbols

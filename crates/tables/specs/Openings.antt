@@ -10,7 +10,7 @@ use Rattle.combine.specs.Rows.{allOf}
 use Rattle.combine.specs.Lists.{same}
 use Rattle.placing.specs.Sizes.{entries, userOf, places, mostHeld, greatestEnd}
 use Rattle.placing.specs.Placing.{heldOf}
-use Rattle.names.specs.Names.{nameb}
+use Rattle.names.specs.Names.{titleb}
 use Rattle.tables.specs.declared.Record.{Record}
 use Rattle.tables.specs.declared.Opening.{Opening}
 use Rattle.tables.specs.Layout.{segmentsIn, openingAt}
@@ -44,10 +44,6 @@ workb t i o r =
 
 unfoldable pub sharesb : List ℕ → ℕ → Opening → Bool
 sharesb t i o = cond (eqb (o .place) 0) true (cond (eqb (o .permit) 0) (readb i o (recordFor t o)) (workb t i o (recordFor t o)))
-
--- "an opening's name is as a record's or all 63"
-unfoldable pub titleb : List ℕ → Bool
-titleb name = nameb name || allBelow 12 (λ k. eqb (getD name k 0) 63)
 
 -- "the values of pointers 2 to 7, where they exist, are 1 to the greatest end value": the work pointer always exists
 unfoldable pub pointersb : Opening → Bool

@@ -1,0 +1,3 @@
+-- Laws that the proofs of the loops share. Assumes nothing.
+pub mod Filled
+pub mod Within
