@@ -3,7 +3,7 @@ use Prim.Native.Nat.{ℕ, suc, _+_, _-_, _≤_, _<_}
 use mathlib.Core.Path.{_≡_, refl, sym, ap, _∙_}
 use mathlib.Core.Bool.{Bool, true, false}
 use mathlib.Core.Option.{Option, none, some}
-use mathlib.Core.List.{List, [], _∷_, _++_, map}
+use mathlib.Core.List.{List, _++_, map}
 use native.Mathlib.Omega.{arith}
 use lib.Dec.{eqb}
 use borrow.Author.Tests.{ne-eqb}
@@ -17,7 +17,7 @@ use Rattle.rules.specs.House.{house, Filing, kept, becomes, refiled, Change, ch
 use Rattle.segments.specs.Free.{SegmentRecord, SegmentOpening}
 use Rattle.tables.specs.Layout.{segmentNumber, positionNumber, segmentsIn, recordAt, openingAt, putOpening, unusedRecord, closedOpening}
 use Rattle.tables.specs.Fields.{valueOf, heldByRecord, heldByOpening}
-use Rattle.tables.specs.Again.{ShapedRecord, ShapedOpening}
+use Rattle.tables.specs.Again.{ShapedRecord, ShapedOpening, numbers-again, values-again}
 use Rattle.tables.specs.Put.{length-put-record, record-put, record-other, opening-kept, segments-kept, opening-put, opening-other, record-kept, segments-stay}
 use Rattle.tables.specs.Handles.{bit, placeNumber, placeOf}
 use Rattle.cells.specs.Says.{inPlaces, recordSays, openingSays, houseOf, asRecord, asOpening, filedIn, written}
@@ -36,14 +36,6 @@ pub record FitsOpening (x : SegmentOpening) : Type 0 where
   pub few : length (x .content) ≤ 32
 
 -- ---- there and back
-
-numbers-again : (l : List ℕ) → map segmentNumber (map segment l) ≡ l
-numbers-again [] = refl
-numbers-again (g ∷ l) = ap (λ (x : List ℕ). g ∷ x) (numbers-again l)
-
-values-again : (l : List ℕ) → map positionNumber (map position l) ≡ l
-values-again [] = refl
-values-again (v ∷ l) = ap (λ (x : List ℕ). v ∷ x) (values-again l)
 
 bit-again : (b : Bool) → eqb (bit b) 1 ≡ b
 bit-again true = refl

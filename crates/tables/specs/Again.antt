@@ -33,6 +33,14 @@ pub positions-again : (l : List Position) → map position (map positionNumber l
 positions-again [] = refl
 positions-again (x ∷ l) = ap (λ (y : List Position). x ∷ y) (positions-again l)
 
+pub numbers-again : (l : List ℕ) → map segmentNumber (map segment l) ≡ l
+numbers-again [] = refl
+numbers-again (g ∷ l) = ap (λ (x : List ℕ). g ∷ x) (numbers-again l)
+
+pub values-again : (l : List ℕ) → map positionNumber (map position l) ≡ l
+values-again [] = refl
+values-again (v ∷ l) = ap (λ (x : List ℕ). v ∷ x) (values-again l)
+
 pub set-back : (l : List Position) (k v : ℕ) → map position (set (map positionNumber l) k v) ≡ set l k (position v)
 set-back [] k v = refl
 set-back (x ∷ l) zero v = ap (λ (y : List Position). position v ∷ y) (positions-again l)

@@ -8,6 +8,7 @@ use lib.ListN.{set}
 use Rattle.placing.specs.declared.Position.{Position}
 use Rattle.placing.specs.Placing.{position}
 use Rattle.rules.specs.Headings.{Heading, Handle}
+use Rattle.rules.specs.Effects.{toldNumber, Use}
 use Rattle.tables.specs.declared.Record.{Record}
 use Rattle.tables.specs.declared.Opening.{Opening}
 use Rattle.tables.specs.Layout.{positionNumber}
@@ -40,3 +41,7 @@ pointed o k v = record { opened = o .opened; place = o .place; permit = o .permi
 -- with the pointers and the name of a handle
 abbrev pub handled : Opening → Handle → Opening
 handled o h = record { opened = o .opened; place = o .place; permit = o .permit; species = o .species; pointers = map position (h .pointers); name = h .name; segments = o .segments }
+
+-- a use that leaves the content: the number of its answer, and the opening with the handle afterwards
+abbrev pub carried : Opening → Use → ℕ × Opening
+carried o u = (toldNumber (u .told), handled o (u .handle))

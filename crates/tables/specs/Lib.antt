@@ -8,3 +8,4 @@ pub mod Lists
 pub mod Sound
 pub mod Again
 pub mod Put
+pub mod Rows
