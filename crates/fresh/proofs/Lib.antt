@@ -1,0 +1,2 @@
+-- What the code of `fresh` does. Assumes nothing.
+pub mod Laws
