@@ -54,7 +54,7 @@ fn alike(place: usize) -> [u32; 12] {
     name
 }
 
-/// So many records of 16 segments, with names by place, and the last eight of each of 32 entries open.
+/// So many records that hold so many segments each, with names by place; so many entries read a record of their user's.
 fn filled(records: usize, name: fn(usize) -> [u32; 12], held: u32, openings: usize) -> Vec<u32> {
     let mut tables = empty();
     for place in 0..records {

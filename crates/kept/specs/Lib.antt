@@ -1,0 +1,24 @@
+-- Every request leaves sound records and openings sound. Assumes nothing.
+pub mod Tests
+pub mod Sums
+pub mod Lists
+pub mod Names
+pub mod Verdicts
+pub mod Uses
+pub mod Allowed
+pub mod Counts
+pub mod Held
+pub mod Taken
+pub mod Alone
+pub mod Away
+pub mod Listed
+pub mod Tied
+pub mod Ranges
+pub mod Used
+pub mod Stored
+pub mod Opened
+pub mod Filed
+pub mod Sounds
+pub mod Requests
+pub mod Fresh
+pub mod Beyond
