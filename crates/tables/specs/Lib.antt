@@ -9,3 +9,6 @@ pub mod Sound
 pub mod Again
 pub mod Put
 pub mod Rows
+pub mod ExtentFacts
+pub mod RecordFacts
+pub mod OpeningFacts

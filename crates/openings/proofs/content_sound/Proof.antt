@@ -14,7 +14,8 @@ use Rattle.placing.specs.declared.Position.{Position}
 use Rattle.placing.specs.Placing.{heldOf, segment}
 use Rattle.tables.specs.Layout.{openingOf}
 use Rattle.tables.specs.Records.{extentb, listb}
-use Rattle.extents.specs.Extent.{extent-facts, held-at}
+use Rattle.extents.specs.Extent.{held-at}
+use Rattle.tables.specs.ExtentFacts.{extentb-facts}
 use Rattle.openings.specs.Cells.{extent-cells}
 use Rattle.openings.specs.Opened.{contentb}
 use Rattle.openings.proofs.content_sound.Statement.{statement}
@@ -44,7 +45,7 @@ of-requires-2 c κs = search needs
 
 held-requires : tie.Need-held-requires
 held-requires c κs =
-    let f = extent-facts _ _ _ (was-true (c .before .before .if1 .left) (c .before .before .before .extent-sound .ensures)) in
+    let f = extentb-facts _ _ _ (was-true (c .before .before .if1 .left) (c .before .before .before .extent-sound .ensures)) in
     let b = ap (λ (x : Position). x .0) (c .before .of .ensures) in
     let e = ap (λ (x : Position). x .0) (c .of2 .ensures) in
     omega arith
@@ -65,7 +66,7 @@ list-sound-requires : tie.Need-list-sound-requires
 unfolding part
 list-sound-requires c κs =
     let row = now (c .before .before .before .before .before .before .before .before .before .before .args .row) in
-    let f = extent-facts _ _ _ (was-true (c .before .before .before .before .if1 .left) (c .before .before .before .before .before .extent-sound .ensures)) in
+    let f = extentb-facts _ _ _ (was-true (c .before .before .before .before .if1 .left) (c .before .before .before .before .before .extent-sound .ensures)) in
     (length-part row 24 32 (omega arith), omega (arith, held-at (getD row 3 0) (getD row 4 0) (getD row 5 0) _ _ _ (c .before .before .before .of .ensures) (c .before .before .of2 .ensures) (c .before .held .ensures)))
 
 returns-2 : tie.Need-returns-2
