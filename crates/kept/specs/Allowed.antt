@@ -3,17 +3,17 @@ use Prim.Native.Nat.{ℕ, _≤_, _<_}
 use mathlib.Core.Path.{_≡_, refl, subst}
 use mathlib.Core.Bool.{Bool, true, false, not, _&&_, _||_, cond}
 use mathlib.Core.Option.{Option, none, some}
-use mathlib.Core.List.{List, _∷_}
+use mathlib.Core.List.{List}
 use lib.Dec.{T, leb, ltb, eqb, eqb→eq, nleb→lt, nltb→le}
-use lib.ListN.{length, getD, replicate}
+use lib.ListN.{length, getD}
 use Rattle.combine.specs.Lists.{any, firstWhere}
-use Rattle.names.specs.Names.{nameOf, scratchName, isScratch}
+use Rattle.names.specs.Names.{nameOf, isScratch}
 use Rattle.placing.specs.Sizes.{greatestSpecies}
 use Rattle.rules.specs.Calls.{new, work, read, Request, opens, closes, abandons, uses}
 use Rattle.rules.specs.Headings.{Heading, Handle, passes, isSome}
 use Rattle.rules.specs.Effects.{Use, Effect, opensNew, opensOld, ended, unfiled, filed, used, Others}
 use Rattle.rules.specs.Access.{acting}
-use Rattle.rules.specs.Rules.{isOwn, isPublic, lookUp, openedAs, busy, openRecord, openOld, openNew, headed, without, placeFor, vanish, closing, rule}
+use Rattle.rules.specs.Rules.{isOwn, isPublic, lookUp, openedAs, busy, openRecord, openOld, openNew, headed, without, placeFor, vanish, closing, rule, newHandle}
 use Rattle.kept.specs.Tests.{not-not, or-first, or-second, nor-first, nor-second, and-first, and-second, nand-second}
 use Rattle.kept.specs.Lists.{first-where, place-below}
 use Rattle.kept.specs.Verdicts.{Has, has, has-onDone}
@@ -76,9 +76,6 @@ pub record Filing (u : ℕ) (rs : List (Option Heading)) (h : Handle) (p : ℕ) 
   pub place : PlaceOf rs (h .place) p
   pub noneOwn : T (not (any (passes (isOwn u (h .name))) (without rs (h .place))))
   pub nonePublic : T public → T (not (any (passes (isPublic (h .name))) (without rs (h .place))))
-
-abbrev pub newHandle : ℕ → Handle
-newHandle s = record { place = none; permit = true; name = scratchName; species = s; pointers = 1 ∷ 1 ∷ 1 ∷ replicate 5 0 }
 
 -- at a closed entry
 pub data Opens (u : ℕ) (rs : List (Option Heading)) (o : Others) : Effect → Type 0 where

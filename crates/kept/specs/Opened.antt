@@ -11,7 +11,7 @@ use lib.ListN.{length, getD, set, replicate, length-set}
 use Rattle.placing.specs.Sizes.{entries, userOf, greatestEnd, greatestSpecies}
 use Rattle.rules.specs.Headings.{Heading, Handle, opening, headOf, handleOf}
 use Rattle.rules.specs.Effects.{Effect}
-use Rattle.rules.specs.Rules.{openedAs, busy}
+use Rattle.rules.specs.Rules.{openedAs, busy, newHandle}
 use Rattle.rules.specs.House.{house, changed, othersOf}
 use Rattle.rules.specs.Levels.{perform}
 use Rattle.segments.specs.Free.{SegmentRecord, SegmentOpening, SegmentHouse, recordSegments, hasRoom}
@@ -20,7 +20,7 @@ use Rattle.segments.specs.Sound.{times, timesInRecord, mentions, SoundFiled, So
 use Rattle.kept.specs.Sums.{total-at}
 use Rattle.kept.specs.Lists.{at-set, replicate-at, map-set}
 use Rattle.kept.specs.Names.{title-of-scratch, twelve-of-scratch, title-of-name}
-use Rattle.kept.specs.Allowed.{Old, Opens, a-new, an-old, newHandle}
+use Rattle.kept.specs.Allowed.{Old, Opens, a-new, an-old}
 use Rattle.kept.specs.Counts.{times-two, but-own, but-none}
 use Rattle.kept.specs.Held.{held-none}
 use Rattle.kept.specs.Away.{Behind, behind}

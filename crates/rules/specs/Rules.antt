@@ -35,10 +35,13 @@ lookUp u n rs =
 -- ---- opening: "Order: 20, 1, 2, then for an opening 3, then 19 (new) or 15, 11/12/13, 14 (old)"
 
 -- "New makes an empty scratch file with work permit."; "It starts with b = e = 1."
+abbrev pub newHandle : ℕ → Handle
+newHandle s = record { place = none; permit = true; name = scratchName; species = s; pointers = 1 ∷ 1 ∷ 1 ∷ replicate 5 0 }
+
 unfoldable pub openNew : ℕ → Verdict Effect
 openNew s =
     refuse 19 when ltb greatestSpecies s else
-    done (opensNew (record { place = none; permit = true; name = scratchName; species = s; pointers = 1 ∷ 1 ∷ 1 ∷ replicate 5 0 }))
+    done (opensNew (newHandle s))
 
 -- "On opening, the work pointer stands at the begin value."; w says that the file is opened for work
 unfoldable pub openedAs : Bool → ℕ → Heading → Handle
