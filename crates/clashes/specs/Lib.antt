@@ -1,0 +1,2 @@
+-- Names as numbers. Assumes nothing.
+pub mod Keys

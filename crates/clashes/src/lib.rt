@@ -1,0 +1,102 @@
+// "No two records of one owner have one name; no two public records have one name."
+ghost use mathlib.Core.Path.{_≡_};
+ghost use mathlib.Core.Bool.{true};
+ghost use Prim.Native.Nat.{ℕ, _+_, _-_, _≤_, _<_};
+ghost use lib.ListN.{length};
+ghost use Rattle.combine.specs.Below.{allBelow};
+ghost use Rattle.placing.specs.Sizes.{places, tablesLength};
+ghost use Rattle.tables.specs.Layout.{recordOf, recordAt};
+ghost use Rattle.tables.specs.Fields.{isUsed};
+ghost use Rattle.tables.specs.Records.{clash, aloneb};
+ghost use Rattle.clashes.specs.Keys.{keyOf, kinb, Spelled, Keyed};
+
+fn wide(cell: u32) -> u64
+    ensures { λ r. ⌜ (r ≡ cell) × (r < 4294967296) ⌝ }
+{
+    cell as u64
+}
+
+// Six symbols of a used record's name, from cell `at` of its row on, as one number after a 1; 0 for an unused record.
+fn key(row: &[u32], at: usize) -> u64
+    requires { ⌜ (length (now row) ≡ 50) × (1 ≤ at) × (at ≤ 7) ⌝ }
+    ensures { λ r. ⌜ r ≡ keyOf (recordOf (now (row .entry))) (at - 1) ⌝ }
+{
+    if row[0] == 0 {
+        return 0;
+    }
+    let two = (64 + wide(row[at])) * 64 + wide(row[at + 1]);
+    let four = (two * 64 + wide(row[at + 2])) * 64 + wide(row[at + 3]);
+    (four * 64 + wide(row[at + 4])) * 64 + wide(row[at + 5])
+}
+
+// Of one owner, or both public.
+fn kin(left: &[u32], right: &[u32]) -> bool
+    requires { ⌜ (length (now left) ≡ 50) × (length (now right) ≡ 50) ⌝ }
+    ensures { λ r. ⌜ r ≡ kinb (recordOf (now (left .entry))) (recordOf (now (right .entry))) ⌝ }
+{
+    if left[13] == right[13] {
+        return true;
+    }
+    if left[14] != 0 {
+        return false;
+    }
+    right[14] == 0
+}
+
+// Whether the used record at place p clashes with the one at place q before it. Names that agree at all mostly agree at
+// their beginning, so that the later half is compared first.
+fn clashes(tables: &[u32], high: &[u64; 64], low: &[u64; 64], p: usize, q: usize) -> bool
+    requires { ⌜ Keyed (now tables) (now high) (now low) (p + 1) × (q < p) × (isUsed (recordAt (now tables) p) ≡ true) ⌝ }
+    ensures { λ r. ⌜ r ≡ clash (recordAt (now (tables .entry)) p) (recordAt (now (tables .entry)) q) ⌝ }
+{
+    if low[p] != low[q] {
+        return false;
+    }
+    if high[p] != high[q] {
+        return false;
+    }
+    let here = 1 + 50 * p;
+    let beyond = here + 50;
+    let there = 1 + 50 * q;
+    let after = there + 50;
+    kin(&tables[here..beyond], &tables[there..after])
+}
+
+fn alone(tables: &[u32], high: &[u64; 64], low: &[u64; 64], p: usize) -> bool
+    requires { ⌜ Keyed (now tables) (now high) (now low) (p + 1) ⌝ }
+    ensures { λ r. ⌜ r ≡ aloneb (now (tables .entry)) p ⌝ }
+{
+    if tables[1 + 50 * p] != 1 {
+        return true;
+    }
+    let mut q = 0;
+    while q < p {
+        if clashes(tables, high, low, p, q) {
+            return false;
+        }
+        q += 1;
+    }
+    true
+}
+
+// Whether no two records have names that clash. The keys of each record are made once, when its place is reached.
+pub fn names_sound(tables: &[u32]) -> bool
+    requires { ⌜ (length (now tables) ≡ tablesLength) × ((p : ℕ) → p < places → Spelled (recordAt (now tables) p)) ⌝ }
+    ensures { λ r. ⌜ r ≡ allBelow places (aloneb (now (tables .entry))) ⌝ }
+{
+    let mut high = [0u64; 64];
+    let mut low = [0u64; 64];
+    let mut p = 0;
+    while p < 64 {
+        let from = 1 + 50 * p;
+        let to = from + 50;
+        let row = &tables[from..to];
+        high[p] = key(row, 1);
+        low[p] = key(row, 7);
+        if !alone(tables, &high, &low, p) {
+            return false;
+        }
+        p += 1;
+    }
+    true
+}

@@ -1,0 +1,5 @@
+-- Laws that the proofs of the code share. Assumes nothing.
+pub mod Cells
+pub mod Counts
+pub mod Marks
+pub mod Search

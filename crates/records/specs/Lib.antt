@@ -1,0 +1,2 @@
+-- Laws of a record's cells. Assumes nothing.
+pub mod Unused
