@@ -1,0 +1,2 @@
+-- The law that the proof of this crate cites. Assumes nothing.
+pub mod Order
