@@ -1,0 +1,20 @@
+-- Sound cells, and cells that say what is sound. Assumes nothing.
+pub mod Lists
+pub mod Rows
+pub mod Wording
+pub mod Worded
+pub mod Counted
+pub mod There
+pub mod Files
+pub mod Shown
+pub mod Records
+pub mod Names
+pub mod Apart
+pub mod Openings
+pub mod Entries
+pub mod SoundSays
+pub mod Canonical
+pub mod RecordTests
+pub mod OpeningTests
+pub mod DistinctTests
+pub mod SaysSound

@@ -1,0 +1,3 @@
+-- What the code of `encoding` does. Assumes nothing.
+pub mod Turns
+pub mod Made

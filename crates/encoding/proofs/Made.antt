@@ -1,0 +1,32 @@
+-- The image is made, and the tables are made. Assumes nothing.
+use Prim.Native.Nat.{ℕ}
+use mathlib.Core.Path.{_≡_, sym, ap, _∙_}
+use mathlib.Core.List.{List, _∷_, _++_}
+use borrow.Rule.Slice.PartMut.{putMid, postOf}
+use lib.ListN.{length, getD, take, drop, set, replicate, length-replicate, replicate-append-replicate}
+use lib.Seq.{take-at, drop-at}
+use Rattle.combine.specs.Lists.{joined, tab, part}
+use Rattle.packing.specs.Packing.{unpacked, rowOf}
+use Rattle.placing.specs.Sizes.{places, tablesLength}
+use Rattle.rows.specs.Cells.{length-cellsOf}
+use Rattle.image.specs.Image.{form1, headWidths, headImage, recordImage, imageOf, headField, recordFrom, tablesFrom}
+
+pub head-length : (n : ℕ) → length (headImage form1 n) ≡ 1
+unfolding headImage
+head-length n = length-cellsOf 1 _
+
+pub image-made : (t x ys z : List ℕ) → ys ≡ headImage form1 (getD t 0 0) → z ≡ take 1 (putMid 0 1 x ys) ++ joined (tab places (recordImage form1 t)) → z ≡ imageOf form1 t
+unfolding imageOf
+image-made t x ys z e f =
+    let records : List ℕ = joined (tab places (recordImage form1 t)) in
+    f ∙ ap (λ (k : List ℕ). take 1 (putMid 0 1 x k) ++ records) e
+    ∙ ap (λ (k : List ℕ). k ++ records) (take-at (headImage form1 (getD t 0 0)) (postOf 0 1 x) 1 (head-length (getD t 0 0)))
+
+-- the cells after the records, in tables that are zero from cell 1 on
+zeros-after : drop {A = ℕ} 3200 (replicate 4992 0) ≡ replicate 1792 0
+zeros-after = ap (drop {A = ℕ} 3200) (sym (replicate-append-replicate 3200 1792 0)) ∙ drop-at (replicate 3200 0) (replicate 1792 0) 3200 (length-replicate {A = ℕ} 3200 0)
+
+pub tables-made : (img h z : List ℕ) → h ≡ unpacked headWidths (rowOf (take 1 img))
+    → z ≡ take 1 (set (replicate tablesLength 0) 0 (getD h 1 0)) ++ (joined (tab places (recordFrom form1 img)) ++ drop 3201 (set (replicate tablesLength 0) 0 (getD h 1 0))) → z ≡ tablesFrom form1 img
+unfolding tablesFrom headField part
+tables-made img h z e f = f ∙ (λ j. getD (e j) 1 0 ∷ (joined (tab places (recordFrom form1 img)) ++ zeros-after j))

@@ -1,0 +1,45 @@
+-- The widths of the image's head and of a record: they fill their cells, and each is that of a field. Assumes nothing.
+use Prim.Native.Nat.{ℕ, _≤_, _<_}
+use mathlib.Core.Path.{_≡_, refl}
+use mathlib.Core.Bool.{Bool, true, _&&_}
+use mathlib.Core.List.{List}
+use borrow.Author.Tests.{leb-true}
+use lib.Dec.{leb}
+use lib.ListN.{length, getD}
+use Rattle.combine.specs.Below.{allBelow, all-at, left-of, right-of}
+use Rattle.packing.specs.Packing.{sum}
+use Rattle.image.specs.Image.{headWidths, recordWidths}
+
+pub head-sum : sum headWidths ≡ 32
+unfolding sum headWidths
+head-sum = refl
+
+pub record-sum : sum recordWidths ≡ 448
+unfolding sum recordWidths
+record-sum = refl
+
+pub head-many : length headWidths ≡ 3
+unfolding headWidths
+head-many = refl
+
+pub record-many : length recordWidths ≡ 50
+unfolding recordWidths
+record-many = refl
+
+-- 1 to 32 digits
+narrow : List ℕ → ℕ → Bool
+narrow ws k = leb 1 (getD ws k 0) && leb (getD ws k 0) 32
+
+narrow-out : (ws : List ℕ) (n : ℕ) → allBelow n (narrow ws) ≡ true → (k : ℕ) → k < n → (1 ≤ getD ws k 0) × (getD ws k 0 ≤ 32)
+unfolding narrow
+narrow-out ws n p k l =
+    let f = all-at (narrow ws) n p k l in
+    (leb-true _ _ (left-of (leb 1 (getD ws k 0)) (leb (getD ws k 0) 32) f), leb-true _ _ (right-of (leb 1 (getD ws k 0)) (leb (getD ws k 0) 32) f))
+
+pub head-narrow : (k : ℕ) → k < 3 → (1 ≤ getD headWidths k 0) × (getD headWidths k 0 ≤ 32)
+unfolding narrow allBelow headWidths
+head-narrow = narrow-out headWidths 3 refl
+
+pub record-narrow : (k : ℕ) → k < 50 → (1 ≤ getD recordWidths k 0) × (getD recordWidths k 0 ≤ 32)
+unfolding narrow allBelow recordWidths
+record-narrow = narrow-out recordWidths 50 refl

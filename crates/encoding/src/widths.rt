@@ -1,0 +1,58 @@
+// The widths of the image's fields, in the image's order.
+
+// "Cell 0: form 8 bits (1), number of segments 11 bits, 13 zero bits."
+pub const HEAD: [u32; 3] = [8, 11, 13];
+
+// "used 1, name 12 x 6, owner 3, private 1, species 3, begin 24, end 24, then 32 segment numbers of 10 bits by rising stretch."
+pub const RECORD: [u32; 50] = [
+    1, // used
+    6, // name
+    6,
+    6,
+    6,
+    6,
+    6,
+    6,
+    6,
+    6,
+    6,
+    6,
+    6,
+    3, // owner
+    1, // private
+    3, // species
+    24, // begin
+    24, // end
+    10, // segment numbers
+    10,
+    10,
+    10,
+    10,
+    10,
+    10,
+    10,
+    10,
+    10,
+    10,
+    10,
+    10,
+    10,
+    10,
+    10,
+    10,
+    10,
+    10,
+    10,
+    10,
+    10,
+    10,
+    10,
+    10,
+    10,
+    10,
+    10,
+    10,
+    10,
+    10,
+    10,
+];
