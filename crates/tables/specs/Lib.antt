@@ -12,3 +12,5 @@ pub mod Rows
 pub mod ExtentFacts
 pub mod RecordFacts
 pub mod OpeningFacts
+pub mod Lengths
+pub mod Pointers

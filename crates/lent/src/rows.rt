@@ -1,0 +1,76 @@
+// Arrays from a row of cells of the same length, and back.
+ghost use mathlib.Core.Path.{_≡_};
+ghost use mathlib.Core.List.{map};
+ghost use lib.ListN.{length};
+ghost use Rattle.placing.specs.Placing.{segment, position};
+ghost use Rattle.tables.specs.Layout.{segmentNumber, positionNumber};
+use placing::Position;
+use placing::Segment;
+
+pub fn segments_from(row: &[u32]) -> [Segment; 32]
+    requires { ⌜ length (now row) ≡ 32 ⌝ }
+    ensures { λ r. ⌜ r ≡ map segment (now (row .entry)) ⌝ }
+{
+    let mut segments = [Segment::of(0); 32];
+    let mut i: usize = 0;
+    while i < 32 {
+        let found = Segment::of(row[i]);
+        segments[i] = found;
+        i += 1;
+    }
+    segments
+}
+
+pub fn pointers_from(row: &[u32]) -> [Position; 8]
+    requires { ⌜ length (now row) ≡ 8 ⌝ }
+    ensures { λ r. ⌜ r ≡ map position (now (row .entry)) ⌝ }
+{
+    let mut pointers = [Position::of(0); 8];
+    let mut i: usize = 0;
+    while i < 8 {
+        let found = Position::of(row[i]);
+        pointers[i] = found;
+        i += 1;
+    }
+    pointers
+}
+
+pub fn name_from(row: &[u32]) -> [u32; 12]
+    requires { ⌜ length (now row) ≡ 12 ⌝ }
+    ensures { λ r. ⌜ r ≡ now (row .entry) ⌝ }
+{
+    let mut name = [0u32; 12];
+    combine::copy_cells(row, &mut name);
+    name
+}
+
+pub fn put_segments(row: &mut [u32], segments: [Segment; 32])
+    requires { ⌜ length (now row) ≡ 32 ⌝ }
+    ensures { λ _. ⌜ now (row .exit) ≡ map segmentNumber segments ⌝ }
+{
+    let mut i: usize = 0;
+    while i < 32 {
+        let found = segments[i];
+        row[i] = found.number();
+        i += 1;
+    }
+}
+
+pub fn put_pointers(row: &mut [u32], pointers: [Position; 8])
+    requires { ⌜ length (now row) ≡ 8 ⌝ }
+    ensures { λ _. ⌜ now (row .exit) ≡ map positionNumber pointers ⌝ }
+{
+    let mut i: usize = 0;
+    while i < 8 {
+        let found = pointers[i];
+        row[i] = found.number();
+        i += 1;
+    }
+}
+
+pub fn put_name(row: &mut [u32], name: [u32; 12])
+    requires { ⌜ length (now row) ≡ 12 ⌝ }
+    ensures { λ _. ⌜ now (row .exit) ≡ name ⌝ }
+{
+    combine::copy_cells(&name, row);
+}

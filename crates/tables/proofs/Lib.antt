@@ -1,0 +1,3 @@
+-- The laws that the proofs of the code cite. Assumes nothing.
+pub mod First
+pub mod Outcomes

@@ -1,0 +1,127 @@
+// The methods by value of an opening: each hands the opening back.
+ghost use mathlib.Core.Path.{_≡_};
+ghost use Prim.Native.Nat.{_≤_};
+ghost use Rattle.combine.specs.Verdict.{onDone};
+ghost use Rattle.combine.specs.Outcome.{outcomeOf, settle};
+ghost use Rattle.answers.specs.Said.{said};
+ghost use Rattle.placing.specs.Placing.{position};
+ghost use Rattle.rules.specs.Access.{pointing, deleting, renaming};
+ghost use Rattle.tables.specs.Fields.{valueOf};
+ghost use Rattle.tables.specs.Handles.{handleIn, pointed, carried};
+ghost use Rattle.tables.specs.Pointers.{lowestFree};
+use crate::Answered;
+use crate::Opening;
+use answers::Answer;
+use answers::Refusal;
+use placing::Position;
+
+impl Opening {
+    // The value of a pointer, 0 where there is no such pointer; any number.
+    pub fn value(self, pointer: u32) -> u32
+        ensures { λ r. ⌜ r ≡ valueOf self pointer ⌝ }
+    {
+        if 7 < pointer {
+            return 0;
+        }
+        let at = pointer as usize;
+        let found = self.pointers[at];
+        found.number()
+    }
+
+    // "Reset puts pointer 2 at the begin value."
+    pub fn reset(self) -> Opening
+        ensures { λ r. ⌜ r ≡ pointed self 2 (position (valueOf self 0)) ⌝ }
+    {
+        let begin = self.value(0);
+        self.step(2, Position::of(begin))
+    }
+
+    // The pointer at another position.
+    pub fn step(mut self, pointer: u32, to: Position) -> Opening
+        requires { ⌜ pointer ≤ 7 ⌝ }
+        ensures { λ r. ⌜ r ≡ pointed self pointer to ⌝ }
+    {
+        let at = pointer as usize;
+        self.pointers[at] = to;
+        self
+    }
+
+    // The lowest name of an own pointer that is free; 8, where none is.
+    fn free_pointer(self) -> u32
+        ensures { λ r. ⌜ r ≡ lowestFree self ⌝ }
+    {
+        let mut pointer = 3;
+        while pointer < 8 {
+            if self.value(pointer) == 0 {
+                return pointer;
+            }
+            pointer += 1;
+        }
+        pointer
+    }
+
+    // "A new own pointer takes the lowest free name, which is the answer, and the value of a given pointer."
+    pub fn new_pointer(self, pointer: u32) -> Answered
+        ensures { λ r. ⌜ outcomeOf (said (r .answer)) (r .opening) ≡ settle self (onDone (carried self) (pointing pointer (handleIn self))) ⌝ }
+    {
+        let value = self.value(pointer);
+        if value == 0 {
+            return Answered {
+                answer: Answer::Refused(Refusal::Pointer),
+                opening: self,
+            };
+        }
+        let free = self.free_pointer();
+        if 7 < free {
+            return Answered {
+                answer: Answer::Refused(Refusal::Pointers),
+                opening: self,
+            };
+        }
+        let opening = self.step(free, Position::of(value));
+        Answered {
+            answer: Answer::Done(free),
+            opening,
+        }
+    }
+
+    // "Only 3 to 7 can be deleted."
+    pub fn delete_pointer(self, pointer: u32) -> Answered
+        ensures { λ r. ⌜ outcomeOf (said (r .answer)) (r .opening) ≡ settle self (onDone (carried self) (deleting pointer (handleIn self))) ⌝ }
+    {
+        if self.value(pointer) == 0 {
+            return Answered {
+                answer: Answer::Refused(Refusal::Pointer),
+                opening: self,
+            };
+        }
+        if pointer < 3 {
+            return Answered {
+                answer: Answer::Refused(Refusal::Pointer),
+                opening: self,
+            };
+        }
+        let opening = self.step(pointer, Position::of(0));
+        Answered {
+            answer: Answer::Done(0),
+            opening,
+        }
+    }
+
+    // "Renaming (needs the work permit) changes the opening's name only."
+    pub fn rename(mut self, name: [u32; 12]) -> Answered
+        ensures { λ r. ⌜ outcomeOf (said (r .answer)) (r .opening) ≡ settle self (onDone (carried self) (renaming name (handleIn self))) ⌝ }
+    {
+        if self.permit != 1 {
+            return Answered {
+                answer: Answer::Refused(Refusal::Permit),
+                opening: self,
+            };
+        }
+        self.name = name;
+        Answered {
+            answer: Answer::Done(0),
+            opening: self,
+        }
+    }
+}
