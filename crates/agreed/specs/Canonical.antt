@@ -2,9 +2,9 @@
 -- Assumes nothing.
 use Prim.Native.Nat.{ℕ, _<_}
 use native.Mathlib.Decide.{ℕ-discrete}
-use mathlib.Core.Path.{_≡_, refl, sym, ap, _∙_, subst}
+use mathlib.Core.Path.{_≡_, sym, ap, _∙_, subst}
 use mathlib.Core.Bool.{true}
-use mathlib.Core.Option.{Option, none, some}
+use mathlib.Core.Option.{Option, none}
 use mathlib.Core.List.{List}
 use lib.ListN.{length, getD}
 use Rattle.placing.specs.Sizes.{places, entries, tablesLength}
@@ -12,13 +12,12 @@ use Rattle.rules.specs.House.{Filing, kept, becomes, Change}
 use Rattle.segments.specs.Free.{SegmentRecord, SegmentOpening}
 use Rattle.tables.specs.declared.Record.{Record}
 use Rattle.tables.specs.declared.Opening.{Opening}
-use Rattle.tables.specs.Layout.{segmentsIn, recordAt, openingAt, putOpening, unusedRecord, closedOpening}
-use Rattle.tables.specs.Again.{ShapedRecord, ShapedOpening}
+use Rattle.tables.specs.Layout.{segmentsIn, recordAt, openingAt, putOpening}
 use Rattle.tables.specs.Put.{length-put-record, record-put, record-other, opening-kept, length-put-opening, opening-put, opening-other, record-kept, record-shaped-at}
 use Rattle.tables.specs.Sound.{soundb, ranged-of}
 use Rattle.cells.specs.Says.{recordSays, openingSays, houseOf, asRecord, asOpening, filedIn, written}
 use Rattle.cells.specs.Determined.{record-back, opening-back}
-use Rattle.cells.specs.Written.{record-shaped, record-said, opening-shaped, opening-said, FitsPlace, FitsEntry, FitsFiling}
+use Rattle.cells.specs.Written.{shaped-place, said-place, shaped-entry, said-entry, FitsPlace, FitsEntry, FitsFiling}
 use Rattle.agreed.specs.There.{record-at, opening-at}
 use Rattle.agreed.specs.Records.{record-ok}
 use Rattle.agreed.specs.Entries.{opening-ok}
@@ -42,28 +41,6 @@ module _ (t : List ℕ) (canonical : Canonical t) where
 
   pub opening-determined : (i : ℕ) → i < entries → (y : Option SegmentOpening) → getD (houseOf t .openings) i none ≡ y → openingAt t i ≡ asOpening y
   opening-determined i l y e = sym (canonical .openings i l) ∙ ap asOpening (sym (opening-at t i l) ∙ e)
-
--- ---- what is written for a record or an opening that fits
-
-shaped-place : (r : Option SegmentRecord) → FitsPlace r → ShapedRecord (asRecord r)
-unfolding asRecord unusedRecord
-shaped-place none w = record { name12 = refl; segments32 = refl }
-shaped-place (some r) w = record-shaped r w
-
-said-place : (r : Option SegmentRecord) → FitsPlace r → recordSays (asRecord r) ≡ r
-unfolding asRecord recordSays unusedRecord
-said-place none w = refl
-said-place (some r) w = record-said r w
-
-shaped-entry : (x : Option SegmentOpening) → FitsEntry x → ShapedOpening (asOpening x)
-unfolding asOpening closedOpening
-shaped-entry none w = record { pointers8 = refl; name12 = refl; segments32 = refl }
-shaped-entry (some x) w = opening-shaped x w
-
-said-entry : (x : Option SegmentOpening) → FitsEntry x → openingSays (asOpening x) ≡ x
-unfolding asOpening openingSays closedOpening
-said-entry none w = refl
-said-entry (some x) w = opening-said x w
 
 -- ---- after a change
 

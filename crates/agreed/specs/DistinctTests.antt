@@ -71,9 +71,6 @@ module _ (h : SegmentHouse) (a : Apart h) where
   owners-apart (of-opening i x ex) (of-opening l y ey) g j k lj lk = both-open g i l j k x y ex ey lj lk
 
 module _ (t : List ℕ) (canonical : Canonical t) (s : SoundHouse (houseOf t)) where
-  abbrev h : SegmentHouse
-  h = houseOf t
-
   each-held : EachRecord (houseOf t)
   each-held p r e = let f : SoundPlace (houseOf t .segments) (some r) = rw e at (s .records p) in f .file .each
 

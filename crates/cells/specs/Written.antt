@@ -106,22 +106,22 @@ abbrev pub FitsFiling : Filing (List ℕ) → Type 0
 FitsFiling kept = Unit {0}
 FitsFiling (becomes p r) = (p < 64) × FitsPlace r
 
-shaped-place : (r : Option SegmentRecord) → FitsPlace r → ShapedRecord (asRecord r)
+pub shaped-place : (r : Option SegmentRecord) → FitsPlace r → ShapedRecord (asRecord r)
 unfolding asRecord unusedRecord
 shaped-place none w = record { name12 = refl; segments32 = refl }
 shaped-place (some r) w = record-shaped r w
 
-said-place : (r : Option SegmentRecord) → FitsPlace r → recordSays (asRecord r) ≡ r
+pub said-place : (r : Option SegmentRecord) → FitsPlace r → recordSays (asRecord r) ≡ r
 unfolding asRecord recordSays unusedRecord
 said-place none w = refl
 said-place (some r) w = record-said r w
 
-shaped-entry : (x : Option SegmentOpening) → FitsEntry x → ShapedOpening (asOpening x)
+pub shaped-entry : (x : Option SegmentOpening) → FitsEntry x → ShapedOpening (asOpening x)
 unfolding asOpening closedOpening
 shaped-entry none w = record { pointers8 = refl; name12 = refl; segments32 = refl }
 shaped-entry (some x) w = opening-shaped x w
 
-said-entry : (x : Option SegmentOpening) → FitsEntry x → openingSays (asOpening x) ≡ x
+pub said-entry : (x : Option SegmentOpening) → FitsEntry x → openingSays (asOpening x) ≡ x
 unfolding asOpening openingSays closedOpening
 said-entry none w = refl
 said-entry (some x) w = opening-said x w
