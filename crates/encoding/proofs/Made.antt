@@ -26,7 +26,11 @@ image-made t x ys z e f =
 zeros-after : drop {A = ℕ} 3200 (replicate 4992 0) ≡ replicate 1792 0
 zeros-after = ap (drop {A = ℕ} 3200) (sym (replicate-append-replicate 3200 1792 0)) ∙ drop-at (replicate 3200 0) (replicate 1792 0) 3200 (length-replicate {A = ℕ} 3200 0)
 
-pub tables-made : (img h z : List ℕ) → h ≡ unpacked headWidths (rowOf (take 1 img))
-    → z ≡ take 1 (set (replicate tablesLength 0) 0 (getD h 1 0)) ++ (joined (tab places (recordFrom form1 img)) ++ drop 3201 (set (replicate tablesLength 0) 0 (getD h 1 0))) → z ≡ tablesFrom form1 img
+pub tables-made : (img h x y z : List ℕ) → h ≡ unpacked headWidths (rowOf (take 1 img)) → length x ≡ tablesLength → y ≡ replicate (length x) 0
+    → z ≡ take 1 (set y 0 (getD h 1 0)) ++ (joined (tab places (recordFrom form1 img)) ++ drop 3201 (set y 0 (getD h 1 0))) → z ≡ tablesFrom form1 img
 unfolding tablesFrom headField part
-tables-made img h z e f = f ∙ (λ j. getD (e j) 1 0 ∷ (joined (tab places (recordFrom form1 img)) ++ zeros-after j))
+tables-made img h x y z e l q f =
+    let w : y ≡ replicate tablesLength 0 = q ∙ ap (λ (n : ℕ). replicate n 0) l in
+    let records : List ℕ = joined (tab places (recordFrom form1 img)) in
+    f ∙ (λ j. take 1 (set (w j) 0 (getD (e j) 1 0)) ++ (records ++ drop 3201 (set (w j) 0 (getD (e j) 1 0))))
+    ∙ ap (λ (k : List ℕ). headField img 1 ∷ (records ++ k)) zeros-after

@@ -84,13 +84,12 @@ pub fn put_image(tables: &[u32], image: &mut [u32])
 }
 
 // The tables of the image, with nothing open.
-pub fn take_image(image: &[u32]) -> [u32; 4993]
-    requires { ⌜ length (now image) ≡ imageLength form1 ⌝ }
-    ensures { λ r. ⌜ r ≡ tablesFrom form1 (now (image .entry)) ⌝ }
+pub fn take_image(image: &[u32], tables: &mut [u32])
+    requires { ⌜ (length (now image) ≡ imageLength form1) × (length (now tables) ≡ tablesLength) ⌝ }
+    ensures { λ _. ⌜ now (tables .exit) ≡ tablesFrom form1 (now (image .entry)) ⌝ }
 {
     let head = take_head(&image[0..1]);
-    let mut tables = [0u32; 4993];
+    combine::fill_cells(tables, 0);
     tables[0] = head[1];
-    take_records(image, &mut tables);
-    tables
+    take_records(image, tables);
 }

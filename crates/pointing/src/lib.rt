@@ -46,3 +46,39 @@ pub fn new_pointer(store: &[u32], tables: &mut [u32], user: u32, entry: u32, poi
         }
     }
 }
+
+// "Only 3 to 7 can be deleted."
+pub fn delete_pointer(
+    store: &[u32],
+    tables: &mut [u32],
+    user: u32,
+    entry: u32,
+    pointer: u32,
+) -> Answer
+    ensures { λ r. ⌜ outcome r (now (store .entry)) (now (tables .exit)) ≡ requestOut (uses (call.deletePointer pointer)) (now (store .entry)) (now (tables .entry)) user entry ⌝ }
+{
+    let reached = gate::reach(store.len(), tables, user, entry);
+    match reached {
+        Gate::No(why) => Answer::Refused(why),
+        Gate::At(at) => {
+            let opening = lent::openings::load_opening(tables, at);
+            let told = opening.delete_pointer(pointer);
+            finish(tables, at, told)
+        }
+    }
+}
+
+// "Reset puts pointer 2 at the begin value."
+pub fn reset(store: &[u32], tables: &mut [u32], user: u32, entry: u32) -> Answer
+    ensures { λ r. ⌜ outcome r (now (store .entry)) (now (tables .exit)) ≡ requestOut (uses call.reset) (now (store .entry)) (now (tables .entry)) user entry ⌝ }
+{
+    let reached = gate::reach(store.len(), tables, user, entry);
+    match reached {
+        Gate::No(why) => Answer::Refused(why),
+        Gate::At(at) => {
+            let opening = lent::openings::load_opening(tables, at);
+            lent::openings::put_opening(tables, at, opening.reset());
+            Answer::Done(0)
+        }
+    }
+}

@@ -1,52 +1,47 @@
+-- `pointing::new_pointer` meets its contract. Assumes nothing.
+use mathlib.Core.Path.{refl, _∙_}
+use denote.Ref.{now}
+use Rattle.rules.specs.Calls.{newPointer}
+use Rattle.rules.specs.Access.{pointing}
+use Rattle.tables.specs.Handles.{handleIn}
+use Rattle.pointing.proofs.Laws.{refused-same, refused-at-gate, long-behind, entry-behind, put-back}
 use borrow.Author.Needs.{needs}
 use Rattle.pointing.proofs.new_pointer.Statement.{statement}
 use Rattle.pointing.proofs.new_pointer.Tie as tie
-use Rattle.pointing.proofs.new_pointer.Reads as reads
-use Rattle.pointing.proofs.new_pointer.Lts as lts
-use Rattle.gate.proofs.reach.Reads as reach-reads
-use Rattle.lent.proofs.openings.load_opening.Reads as load-opening-reads
-use Rattle.pointing.proofs.finish.Reads as finish-reads
-use Rattle.tables.proofs.Opening.new_pointer.Reads as new-pointer-reads
 
--- src/lib.rt:39:9
 reach-requires : tie.Need-reach-requires
 reach-requires c κs = search needs
 
--- src/lib.rt:41:18
 enum-known-reached : tie.Need-enum-known-reached
 enum-known-reached c = search needs
 
--- src/lib.rt:42:18
 enum-known-reached-2 : tie.Need-enum-known-reached-2
 enum-known-reached-2 c = search needs
 
--- src/lib.rt:43:17
 load-opening-requires : tie.Need-load-opening-requires
-load-opening-requires c κs = ?
+load-opening-requires c κs = (long-behind (now (c .before .before .before .before .before .before .before .before .args .store)) (now (c .before .before .before .before .before .before .before .before .args .tables)) (c .before .before .before .before .before .before .before .before .args .user) (c .before .before .before .before .before .before .before .before .args .entry) _ (c .before .before .before .before .reach .ensures) _ (c .before .before .reached2 .given .1), entry-behind (now (c .before .before .before .before .before .before .before .before .args .store)) (now (c .before .before .before .before .before .before .before .before .args .tables)) (c .before .before .before .before .before .before .before .before .args .user) (c .before .before .before .before .before .before .before .before .args .entry) _ (c .before .before .before .before .reach .ensures) _ (c .before .before .reached2 .given .1))
 
--- src/lib.rt:44:17
 new-pointer-requires : tie.Need-new-pointer-requires
 new-pointer-requires c κs = search needs
 
--- src/lib.rt:45:13
 finish-requires : tie.Need-finish-requires
-finish-requires c κs = ?
+finish-requires c κs = (
+  (long-behind (now (c .before .before .before .before .before .before .before .before .before .before .before .args .store)) (now (c .before .before .before .before .before .before .before .before .before .before .before .args .tables)) (c .before .before .before .before .before .before .before .before .before .before .before .args .user) (c .before .before .before .before .before .before .before .before .before .before .before .args .entry) _ (c .before .before .before .before .before .before .before .reach .ensures) _ (c .before .before .before .before .before .reached2 .given .1), entry-behind (now (c .before .before .before .before .before .before .before .before .before .before .before .args .store)) (now (c .before .before .before .before .before .before .before .before .before .before .before .args .tables)) (c .before .before .before .before .before .before .before .before .before .before .before .args .user) (c .before .before .before .before .before .before .before .before .before .before .before .args .entry) _ (c .before .before .before .before .before .before .before .reach .ensures) _ (c .before .before .before .before .before .reached2 .given .1)),
+  λ h. refused-same (c .before .before .load-opening .result) (c .before .new-pointer .result .opening) (c .before .new-pointer .result .answer) (pointing (c .before .before .before .before .before .before .before .before .before .before .before .args .pointer) (handleIn (c .before .before .load-opening .result))) (c .before .new-pointer .ensures) h ∙ c .before .before .load-opening .ensures,
+)
 
--- src/lib.rt:36:1
 same-length : tie.Need-same-length
 same-length c = search needs
 
--- src/lib.rt:36:1
 returns : tie.Need-returns
-returns c = ?
+returns c = refused-at-gate (now (c .before .before .before .before .before .before .before .args .store)) (now (c .before .before .before .before .before .before .before .args .tables)) (c .before .before .before .before .before .before .before .args .user) (c .before .before .before .before .before .before .before .args .entry) _ (c .before .before .before .reach .ensures) _ _ (c .before .reached .given .1)
 
--- src/lib.rt:36:1
 same-length-2 : tie.Need-same-length-2
 same-length-2 c = search needs
 
--- src/lib.rt:36:1
 returns-2 : tie.Need-returns-2
-returns-2 c = ?
+returns-2 c =
+    put-back (now (c .before .before .before .before .before .before .before .before .before .before .before .before .before .before .args .store)) (now (c .before .before .before .before .before .before .before .before .before .before .before .before .before .before .args .tables)) (c .before .before .before .before .before .before .before .before .before .before .before .before .before .before .args .user) (c .before .before .before .before .before .before .before .before .before .before .before .before .before .before .args .entry) _ (c .before .before .before .before .before .before .before .before .before .before .reach .ensures) _ (c .before .before .before .before .before .before .before .before .reached2 .given .1) (newPointer (c .before .before .before .before .before .before .before .before .before .before .before .before .before .before .args .pointer)) refl (c .before .before .before .before .before .load-opening .result) (c .before .before .before .before .new-pointer .result .opening) (c .before .before .before .before .new-pointer .result .answer) (c .before .before .finish .result) (c .before .before .finish .last .0) (c .before .before .before .before .before .load-opening .ensures) (c .before .before .before .before .new-pointer .ensures) (c .before .before .finish .ensures)
 
 pub new-pointer-spec : {M : Type 1} → statement M
 new-pointer-spec =

@@ -1,0 +1,2 @@
+-- What the code of `loading` does. Assumes nothing.
+pub mod Laws

@@ -1,0 +1,2 @@
+-- What the code of `pointing` does. Assumes nothing.
+pub mod Laws

@@ -1,0 +1,2 @@
+-- What the code of `saving` does. Assumes nothing.
+pub mod Laws

@@ -1,0 +1,2 @@
+-- What the contract of `saving` cites. Assumes nothing.
+pub mod Saved
