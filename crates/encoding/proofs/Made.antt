@@ -8,12 +8,8 @@ use lib.Seq.{take-at, drop-at}
 use Rattle.combine.specs.Lists.{joined, tab, part}
 use Rattle.packing.specs.Packing.{unpacked, rowOf}
 use Rattle.placing.specs.Sizes.{places, tablesLength}
-use Rattle.rows.specs.Cells.{length-cellsOf}
+use Rattle.encoding.specs.Lengths.{head-length}
 use Rattle.image.specs.Image.{form1, headWidths, headImage, recordImage, imageOf, headField, recordFrom, tablesFrom}
-
-pub head-length : (n : ℕ) → length (headImage form1 n) ≡ 1
-unfolding headImage
-head-length n = length-cellsOf 1 _
 
 pub image-made : (t x ys z : List ℕ) → ys ≡ headImage form1 (getD t 0 0) → z ≡ take 1 (putMid 0 1 x ys) ++ joined (tab places (recordImage form1 t)) → z ≡ imageOf form1 t
 unfolding imageOf

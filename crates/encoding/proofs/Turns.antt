@@ -8,10 +8,6 @@ use borrow.Rule.Slice.PartMut.{putMid, post-is, mid-len}
 use lib.ListN.{length, take, drop, length-append, take-append-drop, drop-of-length-le}
 use lib.Seq.{length-take-le, take-at, drop-append-add, drop-drop}
 use Rattle.combine.specs.Lists.{joined, tab, part}
-use Rattle.rows.specs.Cells.{length-cellsOf}
-use Rattle.rows.specs.Pack.{unpacked-length}
-use Rattle.image.specs.Image.{form1, recordWidths, recordImage, recordFrom}
-use Rattle.encoding.specs.Widths.{record-many}
 use Rattle.encoding.specs.Pieces.{pieces-suc, pieces-length}
 
 -- the cells from a to e
@@ -52,13 +48,3 @@ module _ (f : ℕ → List ℕ) (m : ℕ) (long : (p : ℕ) → length (f p) ≡
 -- nothing lies beyond the image's last record
 pub image-full : (x y z : List ℕ) → length x ≡ 897 → z ≡ take 1 x ++ (y ++ drop 897 x) → z ≡ take 1 x ++ y
 image-full x y z n e = e ∙ ap (λ (k : List ℕ). take 1 x ++ (y ++ k)) (drop-of-length-le x {i = 897} (omega arith)) ∙ ap (λ (k : List ℕ). take 1 x ++ k) (append-nil y)
-
--- ---- the pieces
-
-pub image-piece : (t : List ℕ) (p : ℕ) → length (recordImage form1 t p) ≡ 14
-unfolding recordImage
-image-piece t p = length-cellsOf 14 _
-
-pub tables-piece : (img : List ℕ) (p : ℕ) → length (recordFrom form1 img p) ≡ 50
-unfolding recordFrom
-tables-piece img p = unpacked-length recordWidths _ ∙ record-many

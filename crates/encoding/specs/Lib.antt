@@ -1,3 +1,4 @@
--- The widths of the image's fields, and equal pieces one after the other. Assumes nothing.
+-- The widths of the image's fields, the lengths of its pieces, and pieces one after the other. Assumes nothing.
 pub mod Widths
+pub mod Lengths
 pub mod Pieces

@@ -27,7 +27,7 @@ module _ (s t img : List ℕ) where
     small-store h = rw (eq-eqb (length t) tablesLength long, lt-leb 64 (length s) h) refl
 
     module _ (room : segmentCells ≤ length s) where
-      -- what the code finds in the image: its length, its first cell's fields, and the tables that it gives
+      -- the image is not sound: by its length, by its first cell, or by the tables that it gives
       bad-image : imageb form1 (length s) img ≡ false → outcomeOf (refused 22) (lent s t) ≡ loadOut s t img
       unfolding loadOut imageGate startGate refuse_when_else_ settle
       bad-image h = rw (eq-eqb (length t) tablesLength long, le-leb 64 (length s) room, h) refl

@@ -1,9 +1,9 @@
 -- A field within a field, and a field in two parts. Assumes nothing.
 use mathlib.Core.Path.{_≡_, sym, ap, _∙_}
-use Prim.Native.Nat.{ℕ, _+_, _-_, _*_, _/_, _%_, _^_, _≤_}
+use Prim.Native.Nat.{ℕ, _+_, _*_, _/_, _%_, _^_, _≤_}
 use native.Mathlib.Nat.{mod-eq-of-lt, mod-mod, add-mul, mul-assoc, add-comm}
 use native.Mathlib.Omega.{arith}
-use lib.Pow.{pow-add, shr-shr, low, mod-pow-add}
+use lib.Pow.{pow-add, shr-shr, mod-pow-add}
 use Rattle.packing.specs.Packing.{field, putField}
 use Rattle.packing.specs.Fields.{field-lt, field-below, field-other-below, put-lt, put-sum}
 

@@ -1,5 +1,4 @@
 -- `encoding::put_head` meets its contract: three fields fill a cell. Assumes nothing.
-use Prim.Native.Nat.{_-_}
 use mathlib.Core.Path.{refl, _∙_}
 use mathlib.Core.List.{[], _∷_}
 use denote.Ref.{now}

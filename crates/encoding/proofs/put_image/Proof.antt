@@ -1,5 +1,4 @@
 -- `encoding::put_image` meets its contract: the head, and then the records. Assumes nothing.
-use Prim.Native.Nat.{_-_}
 use denote.Ref.{now}
 use Rattle.encoding.proofs.Made.{image-made}
 use borrow.Author.Needs.{needs}

@@ -1,5 +1,4 @@
 -- `encoding::take_head` meets its contract: three fields fill a cell. Assumes nothing.
-use Prim.Native.Nat.{_-_}
 use mathlib.Core.Path.{refl}
 use denote.Ref.{now}
 use native.Mathlib.Omega.{arith}

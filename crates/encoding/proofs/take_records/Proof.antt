@@ -7,13 +7,14 @@ use native.Mathlib.Omega.{arith}
 use lib.ListN.{length}
 use Rattle.packing.specs.Packing.{unpacked, rowOf}
 use Rattle.image.specs.Image.{form1, recordWidths, recordFrom}
-use Rattle.encoding.proofs.Turns.{mid-part, mid-is, placed, none-placed, one-placed, all-placed, tables-piece}
+use Rattle.encoding.specs.Lengths.{record-from-length}
+use Rattle.encoding.proofs.Turns.{mid-part, mid-is, placed, none-placed, one-placed, all-placed}
 use borrow.Author.Needs.{needs}
 use Rattle.encoding.proofs.take_records.Statement.{statement}
 use Rattle.encoding.proofs.take_records.Tie as tie
 
 abbrev Inv-loop : tie.InvT-loop
-Inv-loop image tables₀ p₀ tables p = (p ≤ 64) × (length tables ≡ length tables₀) × (tables ≡ placed (recordFrom form1 image) 50 (tables-piece image) tables₀ p)
+Inv-loop image tables₀ p₀ tables p = (p ≤ 64) × (length tables ≡ length tables₀) × (tables ≡ placed (recordFrom form1 image) 50 (record-from-length image) tables₀ p)
 
 abbrev μ-loop : tie.MeasureT-loop
 μ-loop image tables₀ p₀ tables p = 64 - p
@@ -21,7 +22,7 @@ abbrev μ-loop : tie.MeasureT-loop
 loop-holds : tie.Need-loop-holds Inv-loop μ-loop
 loop-holds c =
     let a = c .before .before .args in
-    (omega arith, refl, none-placed (recordFrom form1 (now (a .image))) 50 (tables-piece (now (a .image))) (now (a .tables)) refl)
+    (omega arith, refl, none-placed (recordFrom form1 (now (a .image))) 50 (record-from-length (now (a .image))) (now (a .tables)) refl)
 
 mul-take-record : tie.Need-mul-take-record Inv-loop μ-loop
 mul-take-record c = search needs
@@ -90,7 +91,7 @@ loop-again c =
     let i = now (s .args .image) in
     let l = c .before .before .before .before .before .before .loop in
     let f = c .before .before .take-record in
-    (omega arith, c .before .tables .given .1 ∙ l .inv .1, one-placed (recordFrom form1 i) 50 (tables-piece i) (now (s .args .tables)) (l .tables) (f .last .1 .0) (l .p) (51 + 50 * l .p) (omega arith) (omega arith) (omega arith) (l .inv .2) (f .ensures ∙ ap (λ (r : List ℕ). unpacked recordWidths (rowOf r)) (mid-is (1 + 14 * l .p) (15 + 14 * l .p) 14 i (omega arith))))
+    (omega arith, c .before .tables .given .1 ∙ l .inv .1, one-placed (recordFrom form1 i) 50 (record-from-length i) (now (s .args .tables)) (l .tables) (f .last .1 .0) (l .p) (51 + 50 * l .p) (omega arith) (omega arith) (omega arith) (l .inv .2) (f .ensures ∙ ap (λ (r : List ℕ). unpacked recordWidths (rowOf r)) (mid-is (1 + 14 * l .p) (15 + 14 * l .p) 14 i (omega arith))))
 
 same-length : tie.Need-same-length Inv-loop μ-loop
 same-length c = search needs
@@ -99,7 +100,7 @@ returns : tie.Need-returns Inv-loop μ-loop
 returns c =
     let s = c .before .before .before .before in
     let l = c .before .loop in
-    all-placed (recordFrom form1 (now (s .args .image))) 50 (tables-piece (now (s .args .image))) (now (s .args .tables)) (l .tables) (l .p) 3201 (omega arith) refl (l .inv .2)
+    all-placed (recordFrom form1 (now (s .args .image))) 50 (record-from-length (now (s .args .image))) (now (s .args .tables)) (l .tables) (l .p) 3201 (omega arith) refl (l .inv .2)
 
 pub take-records-spec : {M : Type 1} → statement M
 take-records-spec =

@@ -1,0 +1,8 @@
+-- Save then load, and load then save. Assumes nothing.
+pub mod Closed
+pub mod Lists
+pub mod Sound
+pub mod Narrow
+pub mod Images
+pub mod Done
+pub mod Roundtrip

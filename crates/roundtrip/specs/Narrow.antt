@@ -1,0 +1,147 @@
+-- The numbers of a sound record fit the widths of the image. Assumes nothing.
+use Prim.Native.Nat.{ℕ, zero, suc, _+_, _-_, _^_, _≤_, _<_, zero-le}
+use mathlib.Core.Path.{_≡_, refl, ap, subst}
+use mathlib.Core.Logic.{⊎-elim}
+use mathlib.Core.Bool.{Bool, true, false, cond}
+use mathlib.Core.List.{List, [], _∷_, map}
+use native.Mathlib.Nat.{le-refl, lt-of-lt-of-le}
+use native.Mathlib.Numerals.{add-one}
+use native.Mathlib.Omega.{arith}
+use borrow.Author.Tests.{eqb-true, leb-true, ltb-true, ltb-false}
+use lib.Dec.{eqb, leb, ltb}
+use lib.ListN.{getD, List·getD-map}
+use Rattle.combine.specs.Below.{allBelow, all-at, split-bool}
+use Rattle.combine.specs.Numbers.{le-or-lt}
+use Rattle.combine.specs.Rows.{each-of}
+use Rattle.combine.specs.Lists.{part}
+use Rattle.combine.specs.Parts.{getD-part}
+use Rattle.placing.specs.Placing.{segment}
+use Rattle.placing.specs.Sizes.{places, mostSegments}
+use Rattle.names.specs.Names.{follows, nameb}
+use Rattle.tables.specs.Layout.{segmentNumber, recordBase, recordOf, recordAt}
+use Rattle.tables.specs.Fields.{numberAt}
+use Rattle.tables.specs.Records.{usedb, unusedb, recordb, recordsb}
+use Rattle.tables.specs.ExtentFacts.{SoundList}
+use Rattle.tables.specs.RecordFacts.{usedb-facts}
+use Rattle.image.specs.Image.{recordWidths}
+
+-- 50 cells, each of its width
+abbrev pub Fits : List ℕ → Type 0
+Fits c = (k : ℕ) → k < 50 → getD c k 0 < 2 ^ getD recordWidths k 0
+
+-- ---- above each number: used; symbols; owner, private, species, begin, end; segment numbers
+
+abbrev heads : List ℕ
+heads = 8 ∷ 2 ∷ 8 ∷ 16777216 ∷ 16777216 ∷ []
+
+unfoldable limit : ℕ → ℕ
+limit k = cond (ltb k 1) 2 (cond (ltb k 13) 64 (cond (ltb k 18) (getD heads (k - 13) 0) 1024))
+
+limit-width : (k : ℕ) → k < 50 → limit k ≤ 2 ^ getD recordWidths k 0
+unfolding allBelow limit recordWidths
+limit-width k l = leb-true _ _ (all-at (λ k. leb (limit k) (2 ^ getD recordWidths k 0)) 50 refl k l)
+
+record Small (c : List ℕ) : Type 0 where
+  used : getD c 0 0 < 2
+  name : (k : ℕ) → k < 12 → getD c (1 + k) 0 < 64
+  middle : (j : ℕ) → j < 5 → getD c (13 + j) 0 < getD heads j 0
+  segments : (k : ℕ) → k < 32 → getD c (18 + k) 0 < 1024
+
+small-fits : (c : List ℕ) → Small c → Fits c
+unfolding limit
+small-fits c s k l = lt-of-lt-of-le (go (ltb k 1) (ltb k 13) (ltb k 18) refl refl refl) (limit-width k l)
+  where
+    go : (a b d : Bool) → ltb k 1 ≡ a → ltb k 13 ≡ b → ltb k 18 ≡ d → getD c k 0 < cond a 2 (cond b 64 (cond d (getD heads (k - 13) 0) 1024))
+    go true b d p q r =
+        let e : 0 ≡ k = let h = ltb-true k 1 p in omega arith in
+        subst (λ (i : ℕ). getD c i 0 < 2) e (s .used)
+    go false true d p q r =
+        let h = ltb-false k 1 p in
+        let m = ltb-true k 13 q in
+        let e : 1 + (k - 1) ≡ k = omega arith in
+        subst (λ (i : ℕ). getD c i 0 < 64) e (s .name (k - 1) (omega arith))
+    go false false true p q r =
+        let h = ltb-false k 13 q in
+        let m = ltb-true k 18 r in
+        let e : 13 + (k - 13) ≡ k = omega arith in
+        subst (λ (i : ℕ). getD c i 0 < getD heads (k - 13) 0) e (s .middle (k - 13) (omega arith))
+    go false false false p q r =
+        let h = ltb-false k 18 r in
+        let e : 18 + (k - 18) ≡ k = omega arith in
+        subst (λ (i : ℕ). getD c i 0 < 1024) e (s .segments (k - 18) (omega arith))
+
+five : (P : ℕ → Type 0) → P 0 → P 1 → P 2 → P 3 → P 4 → (j : ℕ) → j < 5 → P j
+five P a b c d e zero l = a
+five P a b c d e (suc zero) l = b
+five P a b c d e (suc (suc zero)) l = c
+five P a b c d e (suc (suc (suc zero))) l = d
+five P a b c d e (suc (suc (suc (suc zero)))) l = e
+five P a b c d e (suc (suc (suc (suc (suc j))))) l = absurd (let z : ⊥ = omega arith in z)
+
+-- ---- a name, and a list of segments
+
+follows-small : (x y : ℕ) → follows x y ≡ true → y < 64
+unfolding follows
+follows-small x y h = go (leb y 35) refl h
+  where
+    go : (b : Bool) → leb y 35 ≡ b → cond b (leb x 35) (eqb y 63) ≡ true → y < 64
+    go true e q = omega (arith, leb-true y 35 e)
+    go false e q = omega (arith, eqb-true y 63 q)
+
+name-small : (name : List ℕ) → nameb name ≡ true → (k : ℕ) → k < 12 → getD name k 63 < 64
+unfolding nameb
+name-small name ok zero l = omega (arith, leb-true (getD name 0 63) 35 (each-of _ ok .0))
+name-small name ok (suc k) l =
+    subst (λ (i : ℕ). getD name i 63 < 64) (add-one k)
+    (follows-small (getD name k 63) (getD name (k + 1) 63) (all-at (λ k. follows (getD name k 63) (getD name (k + 1) 63)) 11 (each-of _ ok .1 .0) k (omega arith)))
+
+default-le : (l : List ℕ) (k : ℕ) → getD l k 0 ≤ getD l k 63
+default-le [] k = zero-le
+default-le (x ∷ l) zero = le-refl x
+default-le (x ∷ l) (suc k) = default-le l k
+
+number-is : (l : List ℕ) (k : ℕ) → numberAt (map segment l) k ≡ getD l k 0
+number-is l k = ap segmentNumber (List·getD-map segment l k 0)
+
+list-small : (n held : ℕ) (l : List ℕ) → n ≤ mostSegments → SoundList n held (map segment l) → (k : ℕ) → k < 32 → getD l k 0 < 1024
+list-small n held l m f k h =
+    ⊎-elim (λ p. omega (arith, number-is l k, f .unusedZero k p h)) (λ q. omega (arith, number-is l k, f .inRange k q)) (le-or-lt held k)
+
+-- ---- a record of 50 cells
+
+module _ (n : ℕ) (most : n ≤ mostSegments) (c : List ℕ) where
+  used-small : usedb n (recordOf c) ≡ true → Small c
+  unfolding recordOf
+  used-small ok =
+      let f = usedb-facts n (recordOf c) ok in
+      let x = f .extent in
+      record {
+        used = omega (arith, f .used);
+        name = λ k l. omega (arith, getD-part c 1 12 k l, default-le (part c 1 12) k, name-small (part c 1 12) (f .name) k l);
+        middle =
+            five (λ j. getD c (13 + j) 0 < getD heads j 0) (omega (arith, f .owner)) (omega (arith, f .private)) (omega (arith, x .species))
+            (omega (arith, x .end, x .greatest)) (omega (arith, x .greatest));
+        segments = λ k l. omega (arith, getD-part c 18 32 k l, list-small n _ (part c 18 32) most (f .list) k l);
+      }
+
+  unused-small : eqb (recordOf c .used) 0 ≡ true → unusedb (recordOf c) ≡ true → Small c
+  unfolding recordOf unusedb
+  unused-small u ok =
+      let f = each-of _ ok in
+      let g = f .1 in
+      record {
+        used = omega (arith, eqb-true (getD c 0 0) 0 u);
+        name = λ k l. omega (arith, getD-part c 1 12 k l, eqb-true (getD (part c 1 12) k 0) 0 (all-at _ 12 (f .0) k l));
+        middle =
+            five (λ j. getD c (13 + j) 0 < getD heads j 0) (omega (arith, eqb-true (getD c 13 0) 0 (g .0))) (omega (arith, eqb-true (getD c 14 0) 0 (g .1 .0)))
+            (omega (arith, eqb-true (getD c 15 0) 0 (g .1 .1 .0))) (omega (arith, eqb-true (getD c 16 0) 0 (g .1 .1 .1 .0))) (omega (arith, eqb-true (getD c 17 0) 0 (g .1 .1 .1 .1 .0)));
+        segments = λ k l. omega (arith, getD-part c 18 32 k l, number-is (part c 18 32) k, eqb-true (numberAt (map segment (part c 18 32)) k) 0 (all-at _ 32 (g .1 .1 .1 .1 .1 .0) k l));
+      }
+
+  record-fits : recordb n (recordOf c) ≡ true → Fits c
+  unfolding recordb
+  record-fits ok = small-fits c (⊎-elim (λ p. unused-small p (rw p at ok)) (λ p. used-small (rw p at ok)) (split-bool (eqb (recordOf c .used) 0)))
+
+pub records-fit : (t : List ℕ) (n : ℕ) → n ≤ mostSegments → recordsb t n ≡ true → (p : ℕ) → p < places → Fits (part t (recordBase p) 50)
+unfolding recordsb recordAt
+records-fit t n most ok p lp = record-fits n most (part t (recordBase p) 50) (all-at _ places (each-of _ ok .0) p lp)
