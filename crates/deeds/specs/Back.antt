@@ -7,7 +7,7 @@ use mathlib.Core.Option.{some}
 use mathlib.Core.List.{List, [], _∷_, _++_, map}
 use native.Mathlib.Omega.{arith}
 use lib.Dec.{eqb, ltb}
-use lib.ListN.{length, getD, take, drop, set, length-map, List·getD-map}
+use lib.ListN.{length, getD, take, drop, set, length-map}
 use lib.Seq.{length-take-le, getD-set-same, getD-set-other}
 use Rattle.combine.specs.Lists.{put}
 use Rattle.placing.specs.declared.Segment.{Segment}
@@ -22,6 +22,7 @@ use Rattle.tables.specs.Layout.{segmentNumber, positionNumber}
 use Rattle.tables.specs.Fields.{valueOf, heldByOpening}
 use Rattle.tables.specs.Handles.{handleIn, pointed}
 use Rattle.tables.specs.Again.{set-back}
+use Rattle.tables.specs.Pointers.{value-in}
 use Rattle.cells.specs.Says.{openingIn, inPlaces, asOpening}
 use Rattle.deeds.specs.Deeded.{withSegments, withSegment, firstLeft, lastLeft}
 use Rattle.deeds.specs.Held.{held-from-next, held-to-last}
@@ -40,11 +41,6 @@ pub record OpenFile (o : Opening) : Type 0 where
   pub segments32 : length (o .segments) ≡ 32
   -- its cells are determined by what they say
   pub determined : asOpening (some (openingIn o)) ≡ o
-
--- the values of the handle are those of the opening
-pub value-in : (o : Opening) (p : ℕ) → value (handleIn o) p ≡ valueOf o p
-unfolding valueOf
-value-in o p = List·getD-map positionNumber (o .pointers) p (position 0)
 
 either : (o : Opening) (b : Bool) (l : List Segment) → withSegments o (cond b l (o .segments)) ≡ cond b (withSegments o l) o
 either o true l = refl

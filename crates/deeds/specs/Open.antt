@@ -11,7 +11,6 @@ use Rattle.combine.specs.Below.{all-at}
 use Rattle.combine.specs.Rows.{each-of}
 use Rattle.placing.specs.Sizes.{greatestUser, greatestEntry, entries, entryOf, greatestSpecies, greatestEnd, mostHeld}
 use Rattle.placing.specs.Placing.{heldOf}
-use Rattle.tables.specs.declared.Opening.{Opening}
 use Rattle.tables.specs.Layout.{openingAt}
 use Rattle.tables.specs.Fields.{isOpen, valueOf}
 use Rattle.tables.specs.Records.{extentb}

@@ -19,7 +19,6 @@ use Rattle.placing.specs.declared.Segment.{Segment}
 use Rattle.placing.specs.Sizes.{places}
 use Rattle.placing.specs.Placing.{segment, heldOf, listPlace}
 use Rattle.store.specs.Store.{segmentOf}
-use Rattle.rules.specs.Headings.{value}
 use Rattle.segments.specs.Free.{recordSegments, placeSegments}
 use Rattle.segments.specs.Deeds.{lacks, segmentAt, sharesAt}
 use Rattle.tables.specs.declared.Record.{Record}
@@ -27,8 +26,9 @@ use Rattle.tables.specs.declared.Opening.{Opening}
 use Rattle.tables.specs.Layout.{segmentNumber, recordAt}
 use Rattle.tables.specs.Fields.{isUsed, valueOf, numberAt, heldByRecord, recordFor}
 use Rattle.tables.specs.Handles.{handleIn, placeOf}
+use Rattle.tables.specs.Pointers.{value-in}
 use Rattle.cells.specs.Says.{recordSays, openingIn, houseOf}
-use Rattle.deeds.specs.Back.{OpenFile, value-in, length-in, segment-listed}
+use Rattle.deeds.specs.Back.{OpenFile, length-in, segment-listed}
 
 -- ---- the number is among the first so many of a list of segments
 
@@ -66,12 +66,32 @@ module _ (l : List Segment) (g : ℕ) where
       let lt : length (take n m) ≡ n = length-take-le n m (omega arith) in
       in-at (take n m) k g (omega arith) (getD-take n m k 0 h ∙ List·getD-map segmentNumber l k (segment 0) ∙ e)
 
+-- ---- the number is one of the record's segments
+
+unfoldable pub sharesNumber : List ℕ → Opening → ℕ → Bool
+sharesNumber t o g = isIn g (placeSegments (houseOf t .records) (handleIn o .place))
+
 -- the list of a record in use
 record-lists : (r : Record) → isUsed r ≡ true → recordSegments (recordSays r) ≡ take (heldOf (r .species) (r .begin .0) (r .end .0)) (map segmentNumber (r .segments))
 unfolding recordSays heldByRecord
 record-lists r u =
     let z : eqb (r .used) 0 ≡ false = ap (λ (k : ℕ). eqb k 0) (eqb-true (r .used) 1 u) in
     rw (u, z) refl
+
+module _ (t : List ℕ) (o : Opening) (g : ℕ) where
+  -- an opening of no record, and one of a record: its held list is asked
+  pub shares-none : o .place ≡ 0 → sharesNumber t o g ≡ false
+  unfolding sharesNumber
+  shares-none e = ap (λ p. isIn g (placeSegments (houseOf t .records) p)) (ap placeOf e)
+
+  pub shares-listed : o .place ≢ 0 → o .place ≤ places → isUsed (recordFor t o) ≡ true
+      → let r = recordFor t o in
+      sharesNumber t o g ≡ listsNumber (r .segments) (heldOf (r .species) (r .begin .0) (r .end .0)) g
+  unfolding sharesNumber listsNumber houseOf
+  shares-listed d l u =
+      let p : placeOf (o .place) ≡ some (o .place - 1) = rw (ne-eqb (o .place) 0 d) refl in
+      let q : getD (houseOf t .records) (o .place - 1) none ≡ recordSays (recordFor t o) = tab-at 64 (λ k. recordSays (recordAt t k)) (o .place - 1) none (omega arith) in
+      ap (λ x. isIn g (placeSegments (houseOf t .records) x)) p ∙ ap (λ x. isIn g (recordSegments x)) q ∙ ap (isIn g) (record-lists (recordFor t o) u)
 
 -- ---- a position of the opening
 
@@ -87,19 +107,7 @@ module _ (o : Opening) (w : OpenFile o) (v : ℕ) where
       ap (λ (b : ℕ). segment (getD (openingIn o .content) (listPlace (o .species) b v) 0)) (value-in o 0)
       ∙ segment-listed o w (listPlace (o .species) (valueOf o 0) v)
 
-  -- that is the record's too: an opening of no record, and one of a record
-  module _ (t : List ℕ) where
-    pub shares-none : o .place ≡ 0 → sharesAt (houseOf t .records) (openingIn o) v ≡ false
-    shares-none e = ap (λ p. isIn (segmentAt (openingIn o) v) (placeSegments (houseOf t .records) p)) (ap placeOf e)
-
-    pub shares-in : o .place ≢ 0 → o .place ≤ places → isUsed (recordFor t o) ≡ true
-        → let r = recordFor t o in
-        sharesAt (houseOf t .records) (openingIn o) v
-        ≡ listsNumber (r .segments) (heldOf (r .species) (r .begin .0) (r .end .0)) (numberAt (o .segments) (listPlace (o .species) (valueOf o 0) v))
-    unfolding listsNumber houseOf
-    shares-in d l u =
-        let p : placeOf (o .place) ≡ some (o .place - 1) = rw (ne-eqb (o .place) 0 d) refl in
-        let q : getD (houseOf t .records) (o .place - 1) none ≡ recordSays (recordFor t o) = tab-at 64 (λ k. recordSays (recordAt t k)) (o .place - 1) none (omega arith) in
-        (λ i. isIn (segmentNumber (segment-in i)) (placeSegments (houseOf t .records) (p i)))
-        ∙ ap (λ x. isIn (numberAt (o .segments) (listPlace (o .species) (valueOf o 0) v)) (recordSegments x)) q
-        ∙ ap (isIn (numberAt (o .segments) (listPlace (o .species) (valueOf o 0) v))) (record-lists (recordFor t o) u)
+  -- that is the record's too
+  pub shares-in : (t : List ℕ) → sharesAt (houseOf t .records) (openingIn o) v ≡ sharesNumber t o (numberAt (o .segments) (listPlace (o .species) (valueOf o 0) v))
+  unfolding sharesNumber
+  shares-in t = λ i. isIn (segmentNumber (segment-in i)) (placeSegments (houseOf t .records) (handleIn o .place))

@@ -4,10 +4,9 @@ use mathlib.Core.Path.{_≡_, refl, sym, ap, _∙_}
 use mathlib.Core.Bool.{Bool, true, false, _&&_, cond}
 use mathlib.Core.Option.{Option, none, some}
 use mathlib.Core.List.{List}
-use borrow.Author.Tests.{leb-true, eq-eqb}
+use borrow.Author.Tests.{eq-eqb}
 use lib.Dec.{ltb, leb}
 use lib.ListN.{length}
-use Rattle.combine.specs.Rows.{each-of}
 use Rattle.combine.specs.Verdict.{done, refuse_when_else_}
 use Rattle.combine.specs.Outcome.{Outcome, settle}
 use Rattle.placing.specs.Sizes.{segmentCells, freshSegments, tablesLength}
@@ -16,8 +15,8 @@ use Rattle.rules.specs.Headings.{isSome}
 use Rattle.rules.specs.House.{freshHouse}
 use Rattle.rules.specs.Gates.{userGate, startGate, imageGate}
 use Rattle.segments.specs.Free.{SegmentHouse, freeCount}
-use Rattle.tables.specs.Layout.{segmentsIn, freshTables}
-use Rattle.tables.specs.Sound.{numberb, soundb}
+use Rattle.tables.specs.Layout.{freshTables}
+use Rattle.tables.specs.Sound.{soundb}
 use Rattle.image.specs.Image.{form1, imageb, tablesFrom}
 use Rattle.cells.specs.Says.{houseOf}
 use Rattle.cells.specs.Outcomes.{Lent, lent, soundLent, lengthsb, requestOut, freeOut, freshOut, loadOut}
@@ -27,6 +26,7 @@ use Rattle.model.specs.Model.{Files, Model, model, free}
 use Rattle.model.specs.Step.{step, filesOr, requestOnModel}
 use Rattle.model.specs.View.{viewHouse, view, filesIn}
 use Rattle.agreed.specs.SoundSays.{sound-says}
+use Rattle.keeping.specs.Requests.{fits-store}
 use Rattle.keeping.specs.Agrees.{request-agrees}
 use Rattle.refined.specs.Counted.{free-seen}
 use Rattle.refined.specs.Entries.{viewState}
@@ -39,9 +39,9 @@ pub record Agrees (o : Outcome Lent) (q : Outcome Model) : Type 0 where
   pub after : viewOn (o .after) ≡ q .after
 
 -- "A number fits a store of at least 64 times as many cells"
-fits-store : (cells : ℕ) (t : List ℕ) → soundb cells t ≡ true → segmentCells * (houseOf t .segments) ≤ cells
-unfolding soundb numberb houseOf
-fits-store cells t ok = leb-true (segmentCells * segmentsIn t) cells (each-of _ (each-of _ ok .1 .1 .1 .1 .0) .1 .1 .0)
+house-fits : (cells : ℕ) (t : List ℕ) → soundb cells t ≡ true → segmentCells * (houseOf t .segments) ≤ cells
+unfolding houseOf
+house-fits cells t ok = fits-store cells t ok
 
 module _ (s t : List ℕ) where
   -- ---- on sound tables
@@ -51,7 +51,7 @@ module _ (s t : List ℕ) where
     unfolding view
     request-agreed r u e =
         let cells = request-agrees r s t u e sound in
-        let shown = request-seen (stateOf (lent s t)) (sound-says (length s) t sound) (fits-store (length s) t sound) r u e in
+        let shown = request-seen (stateOf (lent s t)) (sound-says (length s) t sound) (house-fits (length s) t sound) r u e in
         record { answer = cells .answer ∙ shown .answer; after = ap viewState (cells .after) ∙ shown .after }
 
     pub count-agreed : (u : ℕ) → Agrees (freeOut s t u) (step (filesIn s) (count u) (view s t))

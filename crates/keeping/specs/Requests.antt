@@ -36,7 +36,7 @@ use Rattle.keeping.specs.Fits.{all-fit}
 use Rattle.keeping.specs.Agrees.{request-agrees}
 
 -- "A number fits a store of at least 64 times as many cells"
-fits-store : (cells : ℕ) (t : List ℕ) → soundb cells t ≡ true → segmentCells * segmentsIn t ≤ cells
+pub fits-store : (cells : ℕ) (t : List ℕ) → soundb cells t ≡ true → segmentCells * segmentsIn t ≤ cells
 unfolding soundb numberb
 fits-store cells t ok = leb-true (segmentCells * segmentsIn t) cells (each-of _ (each-of _ ok .1 .1 .1 .1 .0) .1 .1 .0)
 

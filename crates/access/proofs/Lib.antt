@@ -1,0 +1,4 @@
+pub mod Chains
+pub mod Delivers
+pub mod Calls
+pub mod Steps

@@ -1,0 +1,14 @@
+use borrow.Author.Needs.{needs}
+use mathlib.Core.Path.{ap}
+use Rattle.deeds.specs.Deeded.{withSegments}
+use Rattle.access.proofs.leaving.shift.Statement.{statement}
+use Rattle.access.proofs.leaving.shift.Tie as tie
+
+from-second-requires : tie.Need-from-second-requires
+from-second-requires c κs = search needs
+
+returns : tie.Need-returns
+returns c = ap (withSegments (c .before .before .args .opening)) (c .from-second .ensures)
+
+pub shift-spec : {M : Type 1} → statement M
+shift-spec = tie.close (tie.spec from-second-requires returns)
