@@ -1,0 +1,2 @@
+-- What the code of `counting` does. Assumes nothing.
+pub mod Laws

@@ -1,0 +1,2 @@
+-- What a cell of an opening answers. Assumes nothing.
+pub mod Told
