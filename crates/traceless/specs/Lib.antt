@@ -1,0 +1,9 @@
+-- Demand 3: an opening that is abandoned leaves no trace. Assumes nothing.
+pub mod Eased
+pub mod Calm
+pub mod Another
+pub mod Own
+pub mod Steps
+pub mod Beside
+pub mod Histories
+pub mod Demand3
