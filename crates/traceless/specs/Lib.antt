@@ -7,3 +7,5 @@ pub mod Steps
 pub mod Beside
 pub mod Histories
 pub mod Demand3
+pub mod Premises
+pub mod Told
