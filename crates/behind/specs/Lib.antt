@@ -1,0 +1,2 @@
+-- What is known behind the gate. Assumes nothing.
+pub mod Behind

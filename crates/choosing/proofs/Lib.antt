@@ -1,0 +1,2 @@
+-- What the code of `choosing` is. Assumes nothing.
+pub mod Chain

@@ -1,0 +1,2 @@
+-- What a choice says. Assumes nothing.
+pub mod Chosen

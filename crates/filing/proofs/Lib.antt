@@ -1,0 +1,2 @@
+-- What the code of `filing` is. Assumes nothing.
+pub mod Chain

@@ -1,0 +1,3 @@
+-- What the code of `lookup` is. Assumes nothing.
+pub mod Fitting
+pub mod Searched

@@ -1,0 +1,2 @@
+-- What a search is for. Assumes nothing.
+pub mod Sought

@@ -1,0 +1,2 @@
+-- What the code of `rename` is. Assumes nothing.
+pub mod Renamed
