@@ -28,8 +28,6 @@ use placing::Position;
 use placing::Segment;
 use tables::Opening;
 
-pub mod leaving; // an opening whose first or last element leaves
-
 // What a reading call is to deliver: the element at a position, in the segment of its stretch.
 pub enum Reading {
     No(Refusal),
@@ -51,8 +49,7 @@ fn segment_for(opening: Opening, position: Position) -> Segment
     requires { ⌜ OpenFile opening × (valueOf opening 0 ≤ position .0) × (position .0 < valueOf opening 1) ⌝ }
     ensures { λ r. ⌜ r ≡ segmentFor opening (position .0) ⌝ }
 {
-    let begin = Position::of(opening.value(0));
-    let place = position.list_place(begin, opening.species) as usize;
+    let place = leaving::place_of(opening, position) as usize;
     opening.segments[place]
 }
 

@@ -22,7 +22,7 @@ withSegment o k g = withSegments o (set (o .segments) k g)
 abbrev pub shifted : Opening → Opening
 shifted o = withSegments o (drop 1 (o .segments) ++ (segment 0 ∷ []))
 
--- the first element has left, "segments no position lies in any more" are no longer held
+-- the first element has left: "A file holds one segment for each stretch with at least one of its positions, and no other"
 unfoldable pub firstLeft : Opening → Opening
 firstLeft o =
     let b = valueOf o 0 in

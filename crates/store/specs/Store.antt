@@ -1,4 +1,4 @@
--- What a store of cells holds: st is its cells, s a species, g a segment. Assumes nothing.
+-- "The store is a lent slice of 32-bit cells": st is these cells, s a species, g a segment. Assumes nothing.
 use Prim.Native.Nat.{ℕ, _+_, _-_, _*_}
 use mathlib.Core.List.{List}
 use lib.ListN.{getD, set, drop, replicate}

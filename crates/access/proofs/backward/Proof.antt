@@ -1,7 +1,7 @@
 use borrow.Author.Needs.{needs}
 use native.Mathlib.Omega.{arith}
 use Rattle.access.proofs.Chains.{chains}
-use Rattle.access.proofs.Steps.{number-is}
+use Rattle.leaving.proofs.Steps.{number-is}
 use Rattle.access.proofs.backward.Statement.{statement}
 use Rattle.access.proofs.backward.Tie as tie
 

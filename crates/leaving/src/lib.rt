@@ -1,16 +1,36 @@
-// An opening whose first or last element leaves: "A file holds one segment for each stretch with at least one of its positions,
-// and no other".
+// Openings by value: what they hold, and the first or the last element leaves.
 ghost use mathlib.Core.Path.{_≡_};
 ghost use mathlib.Core.List.{[], _∷_, _++_};
-ghost use Prim.Native.Nat.{_<_};
+ghost use Prim.Native.Nat.{_≤_, _<_};
 ghost use lib.ListN.{drop};
-ghost use Rattle.placing.specs.Placing.{segment};
+ghost use Rattle.placing.specs.Sizes.{mostHeld};
+ghost use Rattle.placing.specs.Placing.{segment, heldOf, listPlace};
 ghost use Rattle.tables.specs.Fields.{valueOf};
 ghost use Rattle.deeds.specs.Deeded.{withSegment, shifted, firstLeft, lastLeft};
 ghost use Rattle.deeds.specs.Back.{OpenFile};
+ghost use Rattle.leaving.specs.Spans.{Spans};
 use placing::Position;
 use placing::Segment;
 use tables::Opening;
+
+// "A file holds one segment for each stretch with at least one of its positions, and no other"
+pub fn holds(opening: Opening) -> u32
+    requires { ⌜ Spans opening ⌝ }
+    ensures { λ r. ⌜ r ≡ heldOf (opening .species) (valueOf opening 0) (valueOf opening 1) ⌝ }
+{
+    let begin = Position::of(opening.value(0));
+    let end = Position::of(opening.value(1));
+    placing::held(opening.species, begin, end)
+}
+
+// The place of a position's stretch in the opening's list.
+pub fn place_of(opening: Opening, position: Position) -> u32
+    requires { ⌜ Spans opening × (valueOf opening 0 ≤ position .0) ⌝ }
+    ensures { λ r. ⌜ r ≡ listPlace (opening .species) (valueOf opening 0) (position .0) ⌝ }
+{
+    let begin = Position::of(opening.value(0));
+    position.list_place(begin, opening.species)
+}
 
 // The list without its first segment: "Unused list places are zero".
 fn from_second(list: [Segment; 32]) -> [Segment; 32]
@@ -39,7 +59,7 @@ fn shift(mut opening: Opening) -> Opening
 
 // A place of the list gets a segment.
 pub fn with_segment(mut opening: Opening, place: usize, given: Segment) -> Opening
-    requires { ⌜ place < 32 ⌝ }
+    requires { ⌜ place < mostHeld ⌝ }
     ensures { λ r. ⌜ r ≡ withSegment opening place given ⌝ }
 {
     opening.segments[place] = given;
@@ -51,13 +71,9 @@ pub fn first_left(opening: Opening) -> Opening
     requires { ⌜ OpenFile opening × (valueOf opening 0 < valueOf opening 1) ⌝ }
     ensures { λ r. ⌜ r ≡ firstLeft opening ⌝ }
 {
-    let species = opening.species;
     let begin = opening.value(0);
-    let end = Position::of(opening.value(1));
-    let second = Position::of(begin + 1);
-    let held = placing::held(species, Position::of(begin), end);
-    let moved = opening.step(0, second);
-    if placing::held(species, second, end) < held {
+    let moved = opening.step(0, Position::of(begin + 1));
+    if holds(moved) < holds(opening) {
         return shift(moved);
     }
     moved
@@ -68,13 +84,10 @@ pub fn last_left(opening: Opening) -> Opening
     requires { ⌜ OpenFile opening × (valueOf opening 0 < valueOf opening 1) ⌝ }
     ensures { λ r. ⌜ r ≡ lastLeft opening ⌝ }
 {
-    let species = opening.species;
-    let begin = Position::of(opening.value(0));
     let end = opening.value(1);
-    let last = Position::of(end - 1);
-    let held = placing::held(species, begin, Position::of(end));
-    let moved = opening.step(1, last);
-    if placing::held(species, begin, last) < held {
+    let moved = opening.step(1, Position::of(end - 1));
+    let held = holds(opening);
+    if holds(moved) < held {
         return with_segment(moved, (held - 1) as usize, Segment::of(0));
     }
     moved

@@ -6,9 +6,9 @@ use borrow.Author.Needs.{needs}
 use lib.ListN.{length, take, drop, replicate, length-set}
 use Rattle.placing.specs.declared.Segment.{Segment}
 use Rattle.placing.specs.Placing.{segment}
-use Rattle.access.proofs.Steps.{second-turn, second-done}
-use Rattle.access.proofs.leaving.from_second.Statement.{statement}
-use Rattle.access.proofs.leaving.from_second.Tie as tie
+use Rattle.leaving.proofs.Steps.{second-turn, second-done}
+use Rattle.leaving.proofs.from_second.Statement.{statement}
+use Rattle.leaving.proofs.from_second.Tie as tie
 
 abbrev Inv-loop : tie.InvT-loop
 Inv-loop list rest₀ i₀ rest i = (i ≤ 31) × (length rest ≡ 32) × (rest ≡ take i (drop 1 list) ++ replicate (32 - i) (segment 0))

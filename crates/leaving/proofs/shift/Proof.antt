@@ -1,8 +1,8 @@
 use borrow.Author.Needs.{needs}
 use mathlib.Core.Path.{ap}
 use Rattle.deeds.specs.Deeded.{withSegments}
-use Rattle.access.proofs.leaving.shift.Statement.{statement}
-use Rattle.access.proofs.leaving.shift.Tie as tie
+use Rattle.leaving.proofs.shift.Statement.{statement}
+use Rattle.leaving.proofs.shift.Tie as tie
 
 from-second-requires : tie.Need-from-second-requires
 from-second-requires c κs = search needs

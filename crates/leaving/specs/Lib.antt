@@ -1,0 +1,2 @@
+-- What an opening spans. Assumes nothing.
+pub mod Spans

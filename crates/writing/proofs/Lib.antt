@@ -1,0 +1,5 @@
+pub mod Seats
+pub mod Decides
+pub mod Carries
+pub mod Loaded
+pub mod Asks

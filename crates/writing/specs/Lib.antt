@@ -1,0 +1,2 @@
+-- The call write. Assumes nothing.
+pub mod Plans
