@@ -1,0 +1,8 @@
+//! The calls. Each one first finds every refusal, in the order the rules give, and only then changes anything:
+//! "Every refusal leaves store, tables and image buffer as they stood."
+
+pub mod access;
+pub mod closing;
+pub mod inquiries;
+pub mod opening;
+pub mod pointers;

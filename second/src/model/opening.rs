@@ -1,0 +1,72 @@
+//! An opening of a file, and its pointers.
+
+use super::catalogue::Record;
+use super::file::File;
+use crate::rules::name::Name;
+use crate::rules::sizes::{FIRST_OWN, OWN_POINTERS};
+use crate::rules::species::Species;
+
+pub const BEGIN: u32 = 0;
+pub const END: u32 = 1;
+const WORK: u32 = 2;
+
+#[derive(Clone, PartialEq, Eq, Debug)]
+pub struct Opening {
+    /// The place of the old file's record; a new file has none.
+    pub place: Option<usize>,
+    pub permit: bool,
+    pub name: Name,
+    pub file: File,
+    pub work: u32,
+    pub own: [Option<u32>; OWN_POINTERS],
+}
+
+impl Opening {
+    /// "*New* makes an empty scratch file with work permit."
+    pub fn of_new(species: Species) -> Opening {
+        let file = File::new(species);
+        let work = file.begin();
+        Opening { place: None, permit: true, name: Name::SCRATCH, file, work, own: [None; OWN_POINTERS] }
+    }
+
+    /// "On opening, the work pointer stands at the begin value."
+    pub fn of_old(place: usize, record: &Record, permit: bool) -> Opening {
+        Opening {
+            place: Some(place),
+            permit,
+            name: record.name,
+            file: record.file.clone(),
+            work: record.file.begin(),
+            own: [None; OWN_POINTERS],
+        }
+    }
+
+    /// "Pointer 0 is the begin, 1 the end, 2 the work pointer; 3 to 7 are own pointers."
+    pub fn pointer(&self, pointer: u32) -> Option<u32> {
+        match pointer {
+            BEGIN => Some(self.file.begin()),
+            END => Some(self.file.end()),
+            WORK => Some(self.work),
+            _ => self.own[own_place(pointer)?],
+        }
+    }
+
+    /// Moves the work pointer or an own one; the begin and the end move with the file alone.
+    pub fn move_pointer(&mut self, pointer: u32, value: u32) {
+        if pointer == WORK {
+            self.work = value;
+        } else if let Some(place) = own_place(pointer) {
+            self.own[place] = Some(value);
+        }
+    }
+}
+
+/// Where an own pointer of this name is kept; nothing for other names.
+pub fn own_place(pointer: u32) -> Option<usize> {
+    let place = usize::try_from(pointer).ok()?.checked_sub(FIRST_OWN)?;
+    if place < OWN_POINTERS {
+        Some(place)
+    } else {
+        None
+    }
+}

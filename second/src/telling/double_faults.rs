@@ -1,0 +1,80 @@
+//! Calls with two things wrong at once: only the order of the refusals says which number is answered.
+
+use super::teller::Teller;
+use crate::cells::fields::{opening_cells, TABLES_LENGTH};
+use crate::cells::image::IMAGE_LENGTH;
+
+impl Teller {
+    pub fn make_double_faults(&mut self) {
+        for _ in 0..self.random.between(1, 3) {
+            match self.random.below(5) {
+                0 => self.open_an_open_entry(),
+                1 => self.misuse_a_read_opening(),
+                2 => self.ask_for_nothing_of_nobody(),
+                3 => self.save_and_load_with_two_wrong_lengths(),
+                _ => self.save_unsound_tables(),
+            }
+        }
+    }
+
+    fn open_an_open_entry(&mut self) {
+        let (user, entry) = self.an_open_entry();
+        let species = self.random.pick(&[5, 6, 7, u32::MAX]);
+        self.say(format!("new {} {} {}", user, entry, species));
+        self.say(format!("work {} {}", user, entry));
+        self.say(format!("read {} {} neverused", user, entry));
+    }
+
+    /// Wrong pointers, wrong values and no permit together.
+    fn misuse_a_read_opening(&mut self) {
+        self.open_some_records();
+        let (user, entry) = self.an_open_entry();
+        for pointer in [0, 1, 2, 3, 7, 8] {
+            let word = self.random.pick(&["next", "prev"]);
+            self.say(format!("{} {} {} {}", word, user, entry, pointer));
+            self.say(format!("write {} {} {} 1", user, entry, pointer));
+        }
+        self.say(format!("public {} {}", user, entry));
+        self.say(format!("rename {} {}", user, entry));
+    }
+
+    fn ask_for_nothing_of_nobody(&mut self) {
+        let user = self.random.pick(&[7, 8]);
+        let entry = self.random.pick(&[3, 4]);
+        self.say(format!("new {} {} 6", user, entry));
+        self.say(format!("work {} {} ", user, entry));
+        self.say(format!("write {} {} 9 9", user, entry));
+        self.say(format!("delete {} {} 1", user, entry));
+        self.say(format!("pointer {} {} 9", user, entry));
+    }
+
+    fn save_and_load_with_two_wrong_lengths(&mut self) {
+        let image = self.random.below(4);
+        let cells_more = self.random.pick(&[0, 2]);
+        self.say(format!("lend image{} {}", image, IMAGE_LENGTH + cells_more - 1));
+        self.say(format!("lend tables {}", TABLES_LENGTH + cells_more - 1));
+        self.say(format!("save {}", image));
+        self.say(format!("load {}", image));
+        self.say(format!("lend tables {}", TABLES_LENGTH));
+        self.say(format!("save {}", image));
+        self.say(format!("load {}", image));
+        self.say(format!("lend image{} {}", image, IMAGE_LENGTH));
+    }
+
+    /// An opening of no record without the permit, an image of wrong length, and calls that are wrong anyway.
+    fn save_unsound_tables(&mut self) {
+        let (user, entry) = (self.random.below(8), self.random.below(4));
+        let permit = opening_cells(user as usize, entry as usize).start + 2;
+        let image = self.random.below(4);
+        self.say(format!("lend image{} {}", image, IMAGE_LENGTH + 1));
+        self.say(format!("poke tables {} 2", permit));
+        self.say(format!("save {}", image));
+        self.say(format!("new 8 4 {}", user));
+        self.say(format!("free {}", 8 + user));
+        self.say(format!("lend image{} {}", image, IMAGE_LENGTH));
+        self.say(format!("load {}", image));
+        if self.catalogue().is_none() {
+            self.start_anew();
+        }
+    }
+}

@@ -1,0 +1,129 @@
+//! Positions near the greatest end, and files of 32 segments.
+
+use super::arguments::text_of;
+use super::forging::Shape;
+use super::teller::Teller;
+use crate::rules::name::Name;
+use crate::rules::sizes::GREATEST_END;
+
+impl Teller {
+    /// A new file whose positions are nearly used up.
+    pub fn use_up_positions(&mut self) {
+        let (user, entry) = self.a_closed_entry();
+        let species = self.random.below(6);
+        let opened = self.say(format!("new {} {} {}", user, entry, species));
+        if self.gives_up_after(&opened) {
+            return;
+        }
+        let position = GREATEST_END - self.random.pick(&[0, 0, 1, 1, 2, 3, 5, 20]);
+        self.move_empty_file(user, entry, position);
+        if self.random.chance(30) {
+            // One more than the greatest end is no end.
+            self.move_empty_file(user, entry, GREATEST_END);
+            self.move_end(user, entry, GREATEST_END + 1);
+            self.say("free 1");
+            self.move_end(user, entry, GREATEST_END);
+            self.say("free 1");
+        }
+        let few = self.random.between(1, 4);
+        self.append_some(user, entry, few);
+        self.work_at_the_edge(user, entry);
+    }
+
+    /// A record of some or of 32 segments, put into an image and loaded, or put into the tables.
+    pub fn open_a_forged_record(&mut self) {
+        let held = self.random.pick(&[1, 1, 2, 2, 3, 31, 32, 32, 32]);
+        let image = self.random.index(4);
+        let by_image = self.random.chance(70);
+        if by_image {
+            self.say(format!("save {}", image));
+        }
+        let shape = match self.a_shape(held) {
+            Some(shape) => shape,
+            None => return self.start_anew(),
+        };
+        let owner = self.random.below(8);
+        let symbols: Vec<u32> = (0..self.random.between(1, 12)).map(|_| self.random.below(36)).collect();
+        let numbers = self.record_of(owner, &symbols, &shape);
+        let place = self.a_place();
+        if by_image {
+            self.put_into_image(image, place, &numbers);
+            self.say(format!("load {}", image));
+        } else {
+            self.put_into_tables(place, &numbers);
+        }
+        self.look();
+        let mut whole_name = [63; 12];
+        whole_name[..symbols.len()].copy_from_slice(&symbols);
+        let name = Name::from_symbols(&whole_name).map(|name| text_of(&name)).unwrap_or_default();
+        let entry = self.closed_entry_of(owner);
+        let opened = self.say_with_name("work", owner, entry, &name);
+        if self.gives_up_after(&opened) {
+            return;
+        }
+        self.inquire_all(owner, entry);
+        self.work_at_the_edge(owner, entry);
+    }
+
+    /// A new file of 32 segments, in a store that has no other or some more.
+    pub fn need_a_33rd_segment(&mut self) {
+        let too_few = self.catalogue().map_or(true, |catalogue| catalogue.free.len() < 32);
+        if too_few || self.random.chance(60) {
+            let segments = self.random.pick(&[32, 32, 33, 34, 40]);
+            self.say(format!("lend store {}", segments * 64));
+            self.say("fresh");
+        }
+        let (user, entry) = self.a_closed_entry();
+        let species = self.random.below(6);
+        let opened = self.say(format!("new {} {} {}", user, entry, species));
+        if self.gives_up_after(&opened) {
+            return;
+        }
+        let shape: Shape = match self.a_shape(32) {
+            Some(shape) => shape,
+            None => return,
+        };
+        self.reshape_opening(user, entry, &shape);
+        self.inquire_all(user, entry);
+        self.append_some(user, entry, 6);
+        self.work_at_the_edge(user, entry);
+        if self.random.chance(60) {
+            self.say(format!("rename {} {} big", user, entry));
+            self.say(format!("close {} {}", user, entry));
+            self.say(format!("work {} {} big", user, entry));
+            self.append_some(user, entry, 3);
+            self.work_at_the_edge(user, entry);
+        }
+    }
+
+    /// Appends, drops at both ends, reads and writes in between.
+    fn work_at_the_edge(&mut self, user: u32, entry: u32) {
+        for _ in 0..self.random.between(4, 24) {
+            match self.random.weighted(&[9, 4, 4, 3, 2, 1]) {
+                0 => self.append_some(user, entry, 1),
+                1 => {
+                    self.say(format!("prev {} {} 1", user, entry));
+                }
+                2 => {
+                    let pointer = self.a_pointer();
+                    self.access_through(user, entry, pointer);
+                }
+                3 => {
+                    self.say(format!("pointer {} {} 1", user, entry));
+                    self.say(format!("prev {} {} 3", user, entry));
+                    self.say(format!("write {} {} 3 12345", user, entry));
+                }
+                4 => {
+                    self.say(format!("next {} {} 0", user, entry));
+                }
+                _ => self.look(),
+            }
+        }
+        match self.random.below(4) {
+            0 => self.say(format!("abandon {} {}", user, entry)),
+            1 => self.say(format!("close {} {}", user, entry)),
+            2 => self.say(format!("claim {} {}", user, entry)),
+            _ => self.say(format!("value {} {} 1", user, entry)),
+        };
+    }
+}

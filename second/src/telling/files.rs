@@ -1,0 +1,152 @@
+//! The lives of files: built, closed, worked on again, read.
+
+use super::arguments::text_of;
+use super::mode::Mode;
+use super::teller::Teller;
+use crate::rules::species::Species;
+
+impl Teller {
+    /// A new file, some elements, a name, and an end.
+    pub fn build(&mut self) {
+        let (user, entry) = self.a_closed_entry();
+        let species = self.a_species();
+        let opened = self.say(format!("new {} {} {}", user, entry, species));
+        if self.gives_up_after(&opened) {
+            return;
+        }
+        if self.mode != Mode::Calm && self.random.chance(50) {
+            self.begin_near_a_boundary(user, entry, species);
+        }
+        let count = self.random.pick(&[0, 1, 2, 3, 5, 10, 20, 70, 140]);
+        self.append_some(user, entry, count);
+        if self.random.chance(80) {
+            let name = self.a_name();
+            self.say_with_name("rename", user, entry, &name);
+        }
+        self.end_work(user, entry);
+    }
+
+    pub fn append_some(&mut self, user: u32, entry: u32, count: u32) {
+        for _ in 0..count {
+            let number = self.a_number();
+            if self.say(format!("write {} {} 1 {}", user, entry, number)) == "refused 9" {
+                break;
+            }
+        }
+    }
+
+    /// Moves an empty new file to just before the end of some stretch, so that narrow species cross it soon.
+    fn begin_near_a_boundary(&mut self, user: u32, entry: u32, species: u32) {
+        let elements = match Species::from_number(species) {
+            Some(species) => species.elements_in_a_segment(),
+            None => return,
+        };
+        let stretch = self.random.pick(&[1, 2, 3, 31, 32, 33, 100]);
+        let position = stretch * elements + 1 - self.random.below(6);
+        self.move_empty_file(user, entry, position);
+    }
+
+    /// Closing, mostly; now and then the entry stays open.
+    fn end_work(&mut self, user: u32, entry: u32) {
+        match self.random.weighted(&[40, 25, 12, 23]) {
+            0 => self.say(format!("close {} {}", user, entry)),
+            1 => self.say(format!("public {} {}", user, entry)),
+            2 => self.say(format!("abandon {} {}", user, entry)),
+            _ => self.say(format!("claim {} {}", user, entry)),
+        };
+    }
+
+    /// An old file opened for work: its segments are shared until they are changed.
+    pub fn share(&mut self) {
+        let record = match self.a_record() {
+            Some((_, record)) => record,
+            None => return self.build(),
+        };
+        let user = record.owner as u32;
+        let entry = self.closed_entry_of(user);
+        let opened = self.say_with_name("work", user, entry, &text_of(&record.name));
+        if self.gives_up_after(&opened) {
+            return;
+        }
+        for _ in 0..self.random.between(1, 40) {
+            self.change_something(user, entry);
+        }
+        self.look();
+        if self.random.chance(20) {
+            let name = self.a_name();
+            self.say_with_name("rename", user, entry, &name);
+        }
+        self.end_work(user, entry);
+    }
+
+    fn change_something(&mut self, user: u32, entry: u32) {
+        match self.random.weighted(&[20, 14, 10, 6, 12, 6, 3, 3, 4]) {
+            0 => {
+                let number = self.a_number();
+                self.say(format!("write {} {} 2 {}", user, entry, number));
+            }
+            1 => self.append_some(user, entry, 1),
+            2 => {
+                self.say(format!("prev {} {} 1", user, entry));
+            }
+            3 => {
+                self.say(format!("next {} {} 0", user, entry));
+            }
+            4 => {
+                let pointer = self.a_pointer();
+                self.access_through(user, entry, pointer);
+            }
+            5 => {
+                self.say(format!("next {} {} 2", user, entry));
+            }
+            6 => {
+                self.say(format!("pointer {} {} {}", user, entry, 1));
+            }
+            7 => {
+                self.say(format!("reset {} {}", user, entry));
+            }
+            // A run that may empty whole segments.
+            _ => {
+                let (word, pointer) = self.random.pick(&[("prev", 1), ("next", 0)]);
+                for _ in 0..self.random.between(2, 80) {
+                    if self.say(format!("{} {} {} {}", word, user, entry, pointer)).starts_with("refused") {
+                        break;
+                    }
+                }
+            }
+        }
+    }
+
+    /// Reads a file from its begin on and back, by its owner or another.
+    pub fn read_back(&mut self) {
+        let record = match self.a_record() {
+            Some((_, record)) => record,
+            None => return self.build(),
+        };
+        let user = match self.random.chance(50) {
+            true => record.owner as u32,
+            false => self.a_user(),
+        };
+        let entry = self.closed_entry_of(user);
+        let word = self.random.pick(&["read", "read", "read", "work"]);
+        let opened = self.say_with_name(word, user, entry, &text_of(&record.name));
+        if self.gives_up_after(&opened) {
+            return;
+        }
+        self.inquire_all(user, entry);
+        for pointer in [2, 3] {
+            for word in ["next", "prev"] {
+                for _ in 0..self.random.below(25) {
+                    self.say(format!("{} {} {} {}", word, user, entry, pointer));
+                }
+            }
+            self.say(format!("pointer {} {} 1", user, entry));
+        }
+        if self.random.chance(30) {
+            let pointer = self.a_pointer();
+            self.access_through(user, entry, pointer);
+        }
+        let end = self.random.pick(&["close", "close", "abandon", "public", "end"]);
+        self.say(format!("{} {} {}", end, user, entry));
+    }
+}

@@ -1,0 +1,129 @@
+//! Records and openings made by poking cells, so that they are sound and far from where appending alone leads.
+
+use super::teller::Teller;
+use crate::cells::fields::{self, opening as of_opening, record as of_record};
+use crate::cells::image::{packed_record, RECORD_CELLS};
+use crate::model::store::Segment;
+use crate::rules::sizes::{GREATEST_END, PLACES};
+use crate::rules::species::Species;
+use crate::text::line::BufferName;
+
+/// The bounds of a file, and the segments that it holds.
+pub struct Shape {
+    pub species: Species,
+    pub begin: u32,
+    pub end: u32,
+    pub segments: Vec<Segment>,
+}
+
+impl Teller {
+    /// A shape of so many free segments, at the first stretch, somewhere, or as far up as there are positions.
+    pub fn a_shape(&mut self, held: usize) -> Option<Shape> {
+        let species = Species::from_number(self.random.below(6))?;
+        let segments = self.some_free_segments(held);
+        let held = segments.len() as u32;
+        if held == 0 {
+            return None;
+        }
+        let elements = species.elements_in_a_segment();
+        let top = species.stretch_of(GREATEST_END - 1);
+        let last = match self.random.below(3) {
+            0 => held - 1,
+            1 => self.random.between(held - 1, top),
+            _ => top,
+        };
+        let start_of_first = (last + 1 - held) * elements + 1;
+        let start_of_last = last * elements + 1;
+        let begin = match self.random.chance(50) {
+            true => start_of_first,
+            false => start_of_first + self.random.below(elements),
+        };
+        let end = match self.random.chance(75) {
+            true => start_of_last + elements - self.random.below(4),
+            false => start_of_last + 1 + self.random.below(elements),
+        };
+        // In one single stretch the begin may have come out after the end.
+        let end = end.min(GREATEST_END);
+        Some(Shape { species, begin: begin.min(end - 1), end, segments })
+    }
+
+    /// The fifty numbers of a record.
+    pub fn record_of(&mut self, owner: u32, symbols: &[u32], shape: &Shape) -> [u32; of_record::COUNT] {
+        let mut numbers = [0; of_record::COUNT];
+        numbers[of_record::USED] = 1;
+        numbers[of_record::NAME].fill(63);
+        for (place, symbol) in of_record::NAME.zip(symbols) {
+            numbers[place] = *symbol;
+        }
+        numbers[of_record::OWNER] = owner;
+        numbers[of_record::PRIVATE] = self.random.below(2);
+        numbers[of_record::SPECIES] = shape.species.number();
+        numbers[of_record::BEGIN] = shape.begin;
+        numbers[of_record::END] = shape.end;
+        for (place, segment) in of_record::LIST.zip(&shape.segments) {
+            numbers[place] = u32::from(segment.0);
+        }
+        numbers
+    }
+
+    /// A place without a record, or any.
+    pub fn a_place(&mut self) -> usize {
+        let free: Vec<usize> = match self.catalogue() {
+            Some(catalogue) => (0..PLACES).filter(|&place| catalogue.records[place].is_none()).collect(),
+            None => Vec::new(),
+        };
+        match free.is_empty() {
+            true => self.random.index(PLACES),
+            false => self.random.pick(&free),
+        }
+    }
+
+    /// Puts a record's numbers into an image that was saved.
+    pub fn put_into_image(&mut self, image: usize, place: usize, numbers: &[u32; of_record::COUNT]) {
+        for (offset, cell) in packed_record(numbers).iter().enumerate() {
+            self.poke(BufferName::Image(image), 1 + RECORD_CELLS * place + offset, *cell);
+        }
+    }
+
+    /// Puts a record's numbers into the tables; the last poke is the one that makes it used.
+    pub fn put_into_tables(&mut self, place: usize, numbers: &[u32; of_record::COUNT]) {
+        let start = fields::record_cells(place).start;
+        for (offset, number) in numbers.iter().enumerate().rev() {
+            self.poke(BufferName::Tables, start + offset, *number);
+        }
+    }
+
+    /// Gives an open new file another shape.
+    pub fn reshape_opening(&mut self, user: u32, entry: u32, shape: &Shape) {
+        if !self.is_open(user, entry) {
+            return;
+        }
+        let start = fields::opening_cells(user as usize, entry as usize).start;
+        for (place, segment) in of_opening::LIST.zip(&shape.segments) {
+            self.poke(BufferName::Tables, start + place, u32::from(segment.0));
+        }
+        self.poke(BufferName::Tables, start + of_opening::END, shape.end);
+        if self.random.chance(70) {
+            let work = self.random.between(shape.begin, shape.end);
+            self.poke(BufferName::Tables, start + of_opening::WORK, work);
+        }
+        self.poke(BufferName::Tables, start + of_opening::SPECIES, shape.species.number());
+        self.poke(BufferName::Tables, start + of_opening::BEGIN, shape.begin);
+    }
+
+    /// Puts the end alone, which may break the tables or mend them.
+    pub fn move_end(&mut self, user: u32, entry: u32, position: u32) {
+        let end = fields::opening_cells(user as usize % 8, entry as usize % 4).start + of_opening::END;
+        self.poke(BufferName::Tables, end, position);
+    }
+
+    /// Puts both bounds of an open empty file at a position.
+    pub fn move_empty_file(&mut self, user: u32, entry: u32, position: u32) {
+        if !self.is_open(user, entry) {
+            return;
+        }
+        let start = fields::opening_cells(user as usize, entry as usize).start;
+        self.poke(BufferName::Tables, start + of_opening::END, position);
+        self.poke(BufferName::Tables, start + of_opening::BEGIN, position);
+    }
+}

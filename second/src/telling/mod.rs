@@ -1,0 +1,35 @@
+//! Long mixed histories by seed. The teller answers its own lines as it goes, so that it knows what is open, what
+//! is there and which cells hold what; the history is text alone.
+
+mod arguments;
+mod bad_lines;
+mod contention;
+mod crowds;
+mod damage;
+mod double_faults;
+mod edges;
+mod files;
+mod forging;
+mod lengths;
+pub mod mode;
+mod random;
+mod story;
+mod teller;
+mod twins;
+mod wandering;
+mod wrong_values;
+
+use mode::Mode;
+use teller::Teller;
+
+/// So many lines, always the same for the same seed and mode.
+pub fn history(seed: u64, count: usize, mode: Mode) -> Vec<Vec<u8>> {
+    let mut teller = Teller::new(seed, mode);
+    teller.say("# a generated history");
+    teller.start_anew();
+    while teller.lines.len() < count {
+        teller.tell_a_story();
+    }
+    teller.lines.truncate(count);
+    teller.lines
+}

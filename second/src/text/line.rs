@@ -1,0 +1,111 @@
+//! The lines that there are.
+
+use super::words::{entry_and_name, first_word, number, numbers, words, BadLine};
+use crate::calls::inquiries::Inquiry;
+use crate::rules::name::Name;
+
+pub const IMAGES: usize = 4;
+
+#[derive(Clone, Copy, PartialEq, Eq, Debug)]
+pub enum BufferName {
+    Store,
+    Tables,
+    Image(usize),
+}
+
+/// One line that is neither empty nor a comment. U is the user and E the entry, always the first two numbers.
+#[derive(Clone, Copy, PartialEq, Eq, Debug)]
+pub enum Line {
+    Fresh,
+    Save(usize),
+    Load(usize),
+    Free(u32),
+    New(u32, u32, u32),
+    Work(u32, u32, Name),
+    Read(u32, u32, Name),
+    Rename(u32, u32, Name),
+    Close(u32, u32),
+    Public(u32, u32),
+    Abandon(u32, u32),
+    Reset(u32, u32),
+    Pointer(u32, u32, u32),
+    Delete(u32, u32, u32),
+    Write(u32, u32, u32, u32),
+    Next(u32, u32, u32),
+    Prev(u32, u32, u32),
+    Inquire(u32, u32, Inquiry),
+    Lend(BufferName, u32),
+    Peek(BufferName, u32),
+    Poke(BufferName, u32, u32),
+    Sum(BufferName),
+}
+
+impl Line {
+    pub fn read(line: &[u8]) -> Result<Line, BadLine> {
+        let (word, rest) = first_word(line);
+        Ok(match word {
+            b"fresh" => words(rest).map(|[]: [&[u8]; 0]| Line::Fresh)?,
+            b"save" => Line::Save(image_number(rest)?),
+            b"load" => Line::Load(image_number(rest)?),
+            b"free" => numbers(rest).map(|[u]| Line::Free(u))?,
+            b"new" => numbers(rest).map(|[u, e, s]| Line::New(u, e, s))?,
+            b"work" => entry_and_name(rest).map(|(u, e, name)| Line::Work(u, e, Name::from_bytes(name)))?,
+            b"read" => entry_and_name(rest).map(|(u, e, name)| Line::Read(u, e, Name::from_bytes(name)))?,
+            b"rename" => entry_and_name(rest).map(|(u, e, name)| Line::Rename(u, e, Name::from_bytes(name)))?,
+            b"close" => numbers(rest).map(|[u, e]| Line::Close(u, e))?,
+            b"public" => numbers(rest).map(|[u, e]| Line::Public(u, e))?,
+            b"abandon" => numbers(rest).map(|[u, e]| Line::Abandon(u, e))?,
+            b"reset" => numbers(rest).map(|[u, e]| Line::Reset(u, e))?,
+            b"pointer" => numbers(rest).map(|[u, e, p]| Line::Pointer(u, e, p))?,
+            b"delete" => numbers(rest).map(|[u, e, p]| Line::Delete(u, e, p))?,
+            b"write" => numbers(rest).map(|[u, e, p, x]| Line::Write(u, e, p, x))?,
+            b"next" => numbers(rest).map(|[u, e, p]| Line::Next(u, e, p))?,
+            b"prev" => numbers(rest).map(|[u, e, p]| Line::Prev(u, e, p))?,
+            b"species" => numbers(rest).map(|[u, e]| Line::Inquire(u, e, Inquiry::Species))?,
+            b"claim" => numbers(rest).map(|[u, e]| Line::Inquire(u, e, Inquiry::Claim))?,
+            b"permit" => numbers(rest).map(|[u, e]| Line::Inquire(u, e, Inquiry::Permit))?,
+            b"begin" => numbers(rest).map(|[u, e]| Line::Inquire(u, e, Inquiry::Begin))?,
+            b"end" => numbers(rest).map(|[u, e]| Line::Inquire(u, e, Inquiry::End))?,
+            b"symbol" => numbers(rest).map(|[u, e, k]| Line::Inquire(u, e, Inquiry::Symbol(k)))?,
+            b"value" => numbers(rest).map(|[u, e, p]| Line::Inquire(u, e, Inquiry::Value(p)))?,
+            b"lend" => {
+                let [buffer, length] = words(rest)?;
+                Line::Lend(buffer_name(buffer)?, number(length)?)
+            }
+            b"peek" => {
+                let [buffer, cell] = words(rest)?;
+                Line::Peek(buffer_name(buffer)?, number(cell)?)
+            }
+            b"poke" => {
+                let [buffer, cell, value] = words(rest)?;
+                Line::Poke(buffer_name(buffer)?, number(cell)?, number(value)?)
+            }
+            b"sum" => {
+                let [buffer] = words(rest)?;
+                Line::Sum(buffer_name(buffer)?)
+            }
+            _ => return Err(BadLine("an unknown word")),
+        })
+    }
+}
+
+/// "image buffer I (0 to 3)"; another one is "a buffer ... that is not there".
+fn image_number(rest: Option<&[u8]>) -> Result<usize, BadLine> {
+    let [image] = numbers(rest)?;
+    match usize::try_from(image) {
+        Ok(image) if image < IMAGES => Ok(image),
+        _ => Err(BadLine("no such image buffer")),
+    }
+}
+
+fn buffer_name(word: &[u8]) -> Result<BufferName, BadLine> {
+    match word {
+        b"store" => Ok(BufferName::Store),
+        b"tables" => Ok(BufferName::Tables),
+        b"image0" => Ok(BufferName::Image(0)),
+        b"image1" => Ok(BufferName::Image(1)),
+        b"image2" => Ok(BufferName::Image(2)),
+        b"image3" => Ok(BufferName::Image(3)),
+        _ => Err(BadLine("no such buffer")),
+    }
+}

@@ -1,0 +1,88 @@
+//! Generated histories: refusals change nothing, sound tables stay sound, and every refusal is reached.
+
+mod common;
+
+use common::answer;
+use filing::cells::fields::TABLES_LENGTH;
+use filing::cells::tables::catalogue_of;
+use filing::telling::{history, mode::Mode};
+use filing::text::answering::Desk;
+
+fn sums(desk: &mut Desk) -> [String; 3] {
+    ["sum store", "sum tables", "sum image0"].map(|line| answer(desk, line))
+}
+
+/// "Every refusal leaves store, tables and image buffer as they stood." Bad lines change nothing either.
+fn refusals_change_nothing(seed: u64, count: usize, mode: Mode) {
+    let mut desk = Desk::new();
+    let mut before = sums(&mut desk);
+    let mut refused = 0;
+    for line in history(seed, count, mode) {
+        let said = desk.answer(&line).unwrap_or_default();
+        let after = sums(&mut desk);
+        if said.starts_with("refused") || said.starts_with('?') {
+            assert_eq!(before, after, "{}", String::from_utf8_lossy(&line));
+            refused += 1;
+        }
+        before = after;
+    }
+    assert!(refused > count / 10);
+}
+
+#[test]
+fn refusals_change_nothing_in_mixed_histories() {
+    refusals_change_nothing(11, 6_000, Mode::Mixed);
+}
+
+#[test]
+fn refusals_change_nothing_in_small_stores() {
+    refusals_change_nothing(12, 3_000, Mode::Small);
+}
+
+#[test]
+fn refusals_change_nothing_among_damage() {
+    refusals_change_nothing(13, 3_000, Mode::Damage);
+}
+
+/// "Every call leaves sound tables sound", and what is kept (elements, free segments, openings) is what the
+/// tables' and the store's cells say.
+#[test]
+fn what_is_kept_is_what_the_cells_say() {
+    for (word, mode) in Mode::ALL {
+        let mut desk = Desk::new();
+        for line in history(21, 3_000, mode) {
+            desk.answer(&line);
+            if let Ok(catalogue) = desk.tables.usable(&desk.store) {
+                let said = catalogue_of(&desk.tables.cells()[..TABLES_LENGTH], &desk.store);
+                assert!(said.as_ref() == Ok(catalogue), "{}: {}", word, String::from_utf8_lossy(&line));
+            }
+        }
+    }
+}
+
+#[test]
+fn every_refusal_at_least_five_times() {
+    for seed in 1..=8 {
+        let mut desk = Desk::new();
+        let mut counts = [0; 23];
+        for line in history(seed, 20_000, Mode::Mixed) {
+            let said = desk.answer(&line).unwrap_or_default();
+            if let Some(number) = said.strip_prefix("refused ") {
+                counts[number.parse::<usize>().expect("a number")] += 1;
+            }
+        }
+        let scarce: Vec<usize> = (1..=22).filter(|&number| counts[number] < 5).collect();
+        assert!(scarce.is_empty(), "seed {}: too seldom: {:?}", seed, scarce);
+    }
+}
+
+#[test]
+fn a_seed_gives_one_history() {
+    for (_, mode) in Mode::ALL {
+        let once = history(5, 500, mode);
+        assert_eq!(once.len(), 500);
+        assert_eq!(once, history(5, 500, mode));
+        assert_ne!(once, history(6, 500, mode));
+        assert!(once.iter().all(|line| !line.contains(&b'\n')));
+    }
+}
