@@ -1,0 +1,23 @@
+use Rattle.door.specs.Handed.{hands}
+use borrow.Author.Needs.{needs}
+use Rattle.door.proofs.elements.dorrivand_write.Statement.{statement}
+use Rattle.door.proofs.elements.dorrivand_write.Tie as tie
+
+write-requires : tie.Need-write-requires
+write-requires c κs = search needs
+
+pack-requires : tie.Need-pack-requires
+pack-requires c κs = search needs
+
+same-length : tie.Need-same-length
+same-length c = search needs
+
+same-length-2 : tie.Need-same-length-2
+same-length-2 c = search needs
+
+returns : tie.Need-returns
+returns c = search hands
+
+pub dorrivand-write-spec : {M : Type 1} → statement M
+dorrivand-write-spec =
+    tie.close (tie.spec write-requires pack-requires same-length same-length-2 returns)

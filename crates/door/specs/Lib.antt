@@ -1,0 +1,2 @@
+-- What a caller in C or Rust is handed. Assumes nothing.
+pub mod Handed

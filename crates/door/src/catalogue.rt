@@ -1,0 +1,81 @@
+// Opening, renaming, closing and abandoning.
+use crate::packed::pack;
+ghost use mathlib.Core.Path.{_≡_};
+ghost use Rattle.rules.specs.Calls as call;
+ghost use Rattle.rules.specs.Calls.{opens, closes, abandons, uses};
+ghost use mathlib.Core.Bool.{true, false};
+ghost use Rattle.cells.specs.Outcomes.{lent, requestOut};
+ghost use Rattle.door.specs.Handed.{handed, handing};
+
+#[no_mangle]
+pub extern "C" fn dorrivand_new(
+    store: &[u32],
+    tables: &mut [u32],
+    user: u32,
+    entry: u32,
+    species: u32,
+) -> u64
+    ensures { λ r. ⌜ handed r (lent (now (store .entry)) (now (tables .exit))) ≡ handing (requestOut (opens (call.new species)) (now (store .entry)) (now (tables .entry)) user entry) ⌝ }
+{
+    pack(opening_calls::open_new(store, tables, user, entry, species))
+}
+
+#[no_mangle]
+pub extern "C" fn dorrivand_work(
+    store: &[u32],
+    tables: &mut [u32],
+    user: u32,
+    entry: u32,
+    name: &[u8],
+) -> u64
+    ensures { λ r. ⌜ handed r (lent (now (store .entry)) (now (tables .exit))) ≡ handing (requestOut (opens (call.work (now (name .entry)))) (now (store .entry)) (now (tables .entry)) user entry) ⌝ }
+{
+    pack(opening_calls::open_work(store, tables, user, entry, name))
+}
+
+#[no_mangle]
+pub extern "C" fn dorrivand_read(
+    store: &[u32],
+    tables: &mut [u32],
+    user: u32,
+    entry: u32,
+    name: &[u8],
+) -> u64
+    ensures { λ r. ⌜ handed r (lent (now (store .entry)) (now (tables .exit))) ≡ handing (requestOut (opens (call.read (now (name .entry)))) (now (store .entry)) (now (tables .entry)) user entry) ⌝ }
+{
+    pack(opening_calls::open_read(store, tables, user, entry, name))
+}
+
+#[no_mangle]
+pub extern "C" fn dorrivand_rename(
+    store: &[u32],
+    tables: &mut [u32],
+    user: u32,
+    entry: u32,
+    name: &[u8],
+) -> u64
+    ensures { λ r. ⌜ handed r (lent (now (store .entry)) (now (tables .exit))) ≡ handing (requestOut (uses (call.rename (now (name .entry)))) (now (store .entry)) (now (tables .entry)) user entry) ⌝ }
+{
+    pack(rename::rename(store, tables, user, entry, name))
+}
+
+#[no_mangle]
+pub extern "C" fn dorrivand_close(store: &[u32], tables: &mut [u32], user: u32, entry: u32) -> u64
+    ensures { λ r. ⌜ handed r (lent (now (store .entry)) (now (tables .exit))) ≡ handing (requestOut (closes false) (now (store .entry)) (now (tables .entry)) user entry) ⌝ }
+{
+    pack(closing_calls::close(store, tables, user, entry, false))
+}
+
+#[no_mangle]
+pub extern "C" fn dorrivand_public(store: &[u32], tables: &mut [u32], user: u32, entry: u32) -> u64
+    ensures { λ r. ⌜ handed r (lent (now (store .entry)) (now (tables .exit))) ≡ handing (requestOut (closes true) (now (store .entry)) (now (tables .entry)) user entry) ⌝ }
+{
+    pack(closing_calls::close(store, tables, user, entry, true))
+}
+
+#[no_mangle]
+pub extern "C" fn dorrivand_abandon(store: &[u32], tables: &mut [u32], user: u32, entry: u32) -> u64
+    ensures { λ r. ⌜ handed r (lent (now (store .entry)) (now (tables .exit))) ≡ handing (requestOut abandons (now (store .entry)) (now (tables .entry)) user entry) ⌝ }
+{
+    pack(closing_calls::abandon(store, tables, user, entry))
+}

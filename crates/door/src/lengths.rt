@@ -1,0 +1,18 @@
+// The lengths that a caller lends.
+ghost use mathlib.Core.Path.{_≡_};
+ghost use Rattle.placing.specs.Sizes.{tablesLength};
+ghost use Rattle.image.specs.Image.{form1, imageLength};
+
+#[no_mangle]
+pub extern "C" fn dorrivand_tables_length() -> usize
+    ensures { λ r. ⌜ r ≡ tablesLength ⌝ }
+{
+    4993
+}
+
+#[no_mangle]
+pub extern "C" fn dorrivand_image_length() -> usize
+    ensures { λ r. ⌜ r ≡ imageLength form1 ⌝ }
+{
+    897
+}

@@ -1,0 +1,8 @@
+// What C and Rust call: store, tables (and image) as lent slices, then the numbers or the name's bytes; the answer is one number. Nothing is
+// asked of a caller's numbers, lengths or cells.
+pub mod packed; // an answer as one number
+pub mod lengths; // the one length of the tables, and of an image
+pub mod operator; // fresh start, save, load, free segments
+pub mod catalogue; // open, rename, close, abandon
+pub mod elements; // pointers, write, next, prev
+pub mod inquiry; // what is asked about an open file
