@@ -35,7 +35,7 @@ final-joined : (cs ds : List Call) (x : Lent) → final (cs ++ ds) x ≡ final d
 final-joined [] ds x = refl
 final-joined (c ∷ cs) ds x = final-joined cs ds (afterCall c x)
 
-sound-final : (cs : List Call) (x : Lent) → Sound x → Sound (final cs x)
+pub sound-final : (cs : List Call) (x : Lent) → Sound x → Sound (final cs x)
 sound-final [] x s = s
 sound-final (c ∷ cs) x s = sound-final cs (afterCall c x) (keeps-sound c x s)
 

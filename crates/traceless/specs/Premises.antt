@@ -46,10 +46,10 @@ step-blind f (count u) m n = refl
 step-blind f (on u e r) m n = refl
 
 module _ (c : Call) (x : Lent) (s : Sound x) (n : T (not (isLoad c))) where
-  answer-blind : outcomeOn c x .answer ≡ step blind c (viewOn x) .answer
+  pub answer-blind : outcomeOn c x .answer ≡ step blind c (viewOn x) .answer
   answer-blind = answer-known c x s ∙ ap (λ (o : Outcome Model). o .answer) (step-blind (filesIn (x .store)) c (viewOn x) n)
 
-  after-blind : viewOn (afterCall c x) ≡ step blind c (viewOn x) .after
+  pub after-blind : viewOn (afterCall c x) ≡ step blind c (viewOn x) .after
   after-blind = after-known c x s ∙ ap (λ (o : Outcome Model). o .after) (step-blind (filesIn (x .store)) c (viewOn x) n)
 
 -- ---- histories

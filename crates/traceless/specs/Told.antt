@@ -1,32 +1,23 @@
--- A story to which demand 3 is applied: landlord 2's file of 64 elements is opened for work, its first element is replaced (the record's segment is
--- copied), an append begins another stretch, and it is renamed, while landlord 3 makes and closes a file; then it is abandoned. Assumes nothing.
+-- A story to which demand 3 is applied: user 2's file of 64 elements is opened for work, its first element is replaced (the record's segment is
+-- copied), an append begins another stretch, and it is renamed, while user 3 makes and closes a file; then it is abandoned. Assumes nothing.
 use Prim.Native.Nat.{ℕ}
-use mathlib.Core.Path.{_≡_, refl, sym, ap, _∙_, subst}
-use mathlib.Core.Bool.{Bool, true, false}
+use mathlib.Core.Path.{_≡_, refl, sym, subst}
+use mathlib.Core.Bool.{true, false}
 use mathlib.Core.List.{List, [], _∷_, _++_}
-use lib.Dec.{T, leb}
+use lib.Dec.{T}
 use lib.ListN.{length, replicate}
-use Rattle.combine.specs.Verdict.{done, isDone, refuse_when_else_}
-use Rattle.combine.specs.Outcome.{Outcome, settle}
-use Rattle.names.specs.Names.{symbolsOf, nameOf, scratchName, isScratch}
-use Rattle.placing.specs.Placing.{stretchOf, offsetOf, heldOf, claimOf, listPlace}
-use Rattle.placing.specs.Sizes.{widthOf, elementsOf, tablesLength}
+use Rattle.combine.specs.Verdict.{isDone}
+use Rattle.placing.specs.Sizes.{tablesLength}
 use Rattle.rules.specs.Calls.{new, work, read, rename, write, next, opens, closes, uses, Call, fresh, count, on}
-use Rattle.rules.specs.Access.{writing, nexting, renaming}
-use Rattle.rules.specs.Rules.{lookUp, openNew, openedAs, openOld, headed, closing}
-use Rattle.rules.specs.Gates.{userGate, entryGate, startGate}
-use Rattle.rules.specs.House.{freshHouse}
 use Rattle.cells.specs.Outcomes.{lent}
-use Rattle.model.specs.Model.{Model, model, free}
-use Rattle.model.specs.Step.{Report, step, requestOnModel}
-use Rattle.model.specs.View.{view}
-use Rattle.keeping.specs.Keeps.{done-is-sound}
-use Rattle.demands.specs.History.{outcomeOn, afterCall, viewOn}
-use Rattle.demands.specs.Demands.{Sound}
+use Rattle.model.specs.Model.{Model}
+use Rattle.model.specs.Step.{step}
+use Rattle.demands.specs.History.{afterCall, viewOn}
 use Rattle.demands.specs.Abandoning.{Story, opening, Abandoned, NoTrace}
-use Rattle.demanded.specs.Demand2.{demand2-start}
 use Rattle.traceless.specs.Premises.{blind, knownAfter, quietb, abandoned-known}
 use Rattle.traceless.specs.Demand3.{demand3}
+use Rattle.traceless.specs.Started.{nothingThere, fresh-leaves-sound, fresh-leaves-nothing}
+use Rattle.traceless.specs.Answers.{answersKnown}
 
 -- ---- the story
 
@@ -53,43 +44,26 @@ storyAfter before = record {
 
 -- ---- on the state as its users know it, after a fresh start over 1,024 cells
 
-abbrev started : Model
-started = model 1024 (freshHouse 1024)
-
--- what unfolds this unfolds every definition that the story's calls rest on
-unfoldable opens-well : Bool
-unfolding refuse_when_else_ settle symbolsOf nameOf scratchName isScratch stretchOf offsetOf heldOf claimOf listPlace widthOf elementsOf writing nexting renaming lookUp openNew openedAs openOld headed closing userGate entryGate startGate free requestOnModel
-opens-well = isDone (step blind (opening (storyAfter filled)) (knownAfter filled started) .answer)
-
-well : T (isDone (step blind (opening (storyAfter filled)) (knownAfter filled started) .answer))
-unfolding opens-well
+well : T (isDone (step blind (opening (storyAfter filled)) (knownAfter filled (nothingThere 1024)) .answer))
+unfolding answersKnown
 well = tt
 
-quietly : T (quietb 2 0 (storyAfter filled .between) (step blind (opening (storyAfter filled)) (knownAfter filled started) .after))
-unfolding opens-well
+quietly : T (quietb 2 0 (storyAfter filled .between) (step blind (opening (storyAfter filled)) (knownAfter filled (nothingThere 1024)) .after))
+unfolding answersKnown
 quietly = tt
 
 -- ---- on any cells
 
 module _ (s t : List ℕ) (cells : length s ≡ 1024) (long : length t ≡ tablesLength) where
-  starts : (outcomeOn fresh (lent s t) .answer ≡ done 0) × (viewOn (afterCall fresh (lent s t)) ≡ started)
-  unfolding view startGate refuse_when_else_ settle
-  starts =
-      let known : (n : ℕ) → n ≡ 1024 → settle (model n (view s t .house)) (startGate (leb 64 n) (done (0, model n (freshHouse n)))) ≡ record { answer = done 0; after = started } = λ n e. rw e refl in
-      let d = demand2-start fresh (lent s t) refl long in (
-        ap (λ (p : Report × Model). p .0 .answer) d ∙ ap (λ (o : Outcome Model). o .answer) (known (length s) cells),
-        ap (λ (p : Report × Model). p .1) d ∙ ap (λ (o : Outcome Model). o .after) (known (length s) cells),
-      )
-
-  begins-sound : Sound (afterCall fresh (lent s t))
-  begins-sound = done-is-sound fresh (lent s t) (ap isDone (starts .0))
+  starts : viewOn (afterCall fresh (lent s t)) ≡ nothingThere 1024
+  starts = fresh-leaves-nothing s t 1024 cells refl long
 
   -- the premises of demand 3 are met
   pub premises : Abandoned (storyAfter (fresh ∷ filled)) (lent s t)
   premises =
-      let a = abandoned-known (storyAfter filled) (afterCall fresh (lent s t)) begins-sound tt tt tt
-      (subst (λ (m : Model). T (isDone (step blind (opening (storyAfter filled)) (knownAfter filled m) .answer))) (sym (starts .1)) well)
-      (subst (λ (m : Model). T (quietb 2 0 (storyAfter filled .between) (step blind (opening (storyAfter filled)) (knownAfter filled m) .after))) (sym (starts .1)) quietly) in
+      let a = abandoned-known (storyAfter filled) (afterCall fresh (lent s t)) (fresh-leaves-sound s t 1024 cells refl long) tt tt tt
+      (subst (λ (m : Model). T (isDone (step blind (opening (storyAfter filled)) (knownAfter filled m) .answer))) (sym starts) well)
+      (subst (λ (m : Model). T (quietb 2 0 (storyAfter filled .between) (step blind (opening (storyAfter filled)) (knownAfter filled m) .after))) (sym starts) quietly) in
       record { opened = a .opened; quietly = a .quietly; noLoad = a .noLoad }
 
   pub no-trace : NoTrace (storyAfter (fresh ∷ filled)) (lent s t)

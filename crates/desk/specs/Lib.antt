@@ -1,0 +1,2 @@
+-- Lines that are no calls. Assumes nothing.
+pub mod Buffers

@@ -1,0 +1,3 @@
+-- What lines of histories ask for. Assumes nothing.
+pub mod Spelling
+pub mod Naming

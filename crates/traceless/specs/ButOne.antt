@@ -1,0 +1,62 @@
+-- The premises of demand 3 but one: what a story meets that shows the one to be needed. Assumes nothing.
+use Prim.Native.Nat.{ℕ}
+use mathlib.Core.Bool.{Bool, true, false, not, _&&_, _||_}
+use mathlib.Core.List.{List, [], _∷_, _++_}
+use lib.Dec.{T, eqb}
+use Rattle.combine.specs.Verdict.{Said, done, refused, isDone}
+use Rattle.rules.specs.Calls.{Call}
+use Rattle.cells.specs.Outcomes.{Lent}
+use Rattle.demands.specs.History.{outcomeOn, afterCall, final}
+use Rattle.demands.specs.Abandoning.{isOn, ends, crowded, quiet, Quiet, NoLoad, Story, opening, abandoning, Abandoned}
+
+-- ---- but that other calls between may be answered n: 9, "no room", or 14, "not now"
+
+abbrev pub refusedFor : ℕ → Said → Bool
+refusedFor n (done m) = false
+refusedFor n (refused m) = eqb m n
+
+abbrev pub quietBut : ℕ → ℕ → ℕ → Call → Said → Bool
+quietBut n u e c a = refusedFor n a || quiet u e c a
+
+abbrev pub QuietBut : ℕ → ℕ → ℕ → List Call → Lent → Type 0
+QuietBut n u e [] x = Unit {0}
+QuietBut n u e (c ∷ cs) x = T (quietBut n u e c (outcomeOn c x .answer)) × QuietBut n u e cs (afterCall c x)
+
+pub record AbandonedBut (n : ℕ) (h : Story) (x : Lent) : Type 0 where
+  pub opened : T (isDone (outcomeOn (opening h) (final (h .before) x) .answer))
+  pub quietly : QuietBut n (h .user) (h .entry) (h .between) (afterCall (opening h) (final (h .before) x))
+  pub noLoad : NoLoad (h .later) (final (h .before ++ opening h ∷ (h .between ++ abandoning h ∷ [])) x)
+
+-- the premise left out: no call but the user's on the entry is answered n
+abbrev pub NoneAnswered : ℕ → ℕ → ℕ → List Call → Lent → Type 0
+NoneAnswered n u e [] x = Unit {0}
+NoneAnswered n u e (c ∷ cs) x = T (isOn u e c || not (refusedFor n (outcomeOn c x .answer))) × NoneAnswered n u e cs (afterCall c x)
+
+quiet-with : (n u e : ℕ) (c : Call) (a : Said) → T (quietBut n u e c a) → T (isOn u e c || not (refusedFor n a)) → T (quiet u e c a)
+quiet-with n u e c (done m) q t = q
+quiet-with n u e c (refused m) q t = go (eqb m n) (isOn u e c) (ends u e c) q t
+  where
+    go : (for own ending : Bool) → T (for || (not (ending && false) && (own || not (crowded (refused m))))) → T (own || not for)
+        → T (not (ending && false) && (own || not (crowded (refused m))))
+    go false own ending q t = q
+    go true true true q t = tt
+    go true true false q t = tt
+    go true false ending q t = absurd t
+
+quietly-with : (n u e : ℕ) (cs : List Call) (x : Lent) → QuietBut n u e cs x → NoneAnswered n u e cs x → Quiet u e cs x
+quietly-with n u e [] x q t = tt
+quietly-with n u e (c ∷ cs) x q t = (quiet-with n u e c (outcomeOn c x .answer) (q .0) (t .0), quietly-with n u e cs (afterCall c x) (q .1) (t .1))
+
+-- with it, these are the premises of demand 3
+pub with-none-answered : (n : ℕ) (h : Story) (x : Lent) → AbandonedBut n h x
+    → NoneAnswered n (h .user) (h .entry) (h .between) (afterCall (opening h) (final (h .before) x)) → Abandoned h x
+with-none-answered n h x a t = record { opened = a .opened; quietly = quietly-with n (h .user) (h .entry) (h .between) _ (a .quietly) t; noLoad = a .noLoad }
+
+-- ---- but that an image may be loaded after the abandonment
+
+pub record AbandonedThenLoaded (h : Story) (x : Lent) : Type 0 where
+  pub opened : T (isDone (outcomeOn (opening h) (final (h .before) x) .answer))
+  pub quietly : Quiet (h .user) (h .entry) (h .between) (afterCall (opening h) (final (h .before) x))
+
+pub with-none-loaded : (h : Story) (x : Lent) → AbandonedThenLoaded h x → NoLoad (h .later) (final (h .before ++ opening h ∷ (h .between ++ abandoning h ∷ [])) x) → Abandoned h x
+with-none-loaded h x a n = record { opened = a .opened; quietly = a .quietly; noLoad = n }

@@ -1,0 +1,136 @@
+/* A landlord's day, through the header alone. It prints every answer; landlords_day.expected has them all. */
+#include "dorrivand.h"
+#include <stdio.h>
+#include <stdlib.h>
+#include <string.h>
+
+#define STORE_LENGTH 1024
+
+static uint32_t store[STORE_LENGTH];
+static uint32_t *tables;
+
+/* Every call is lent the store and the tables. */
+#define LENT store, STORE_LENGTH, tables, dorrivand_tables_length()
+
+/* The bytes of a name, and how many they are. */
+#define NAMED(name) (const uint8_t *)(name), strlen(name)
+
+static void part(const char *words) { printf("\n%s\n", words); }
+
+static void refused(const char *call, uint64_t answer) { printf("    %-30srefused %u\n", call, (unsigned)dorrivand_number(answer)); }
+
+/* The answer of a call that gives no number. */
+static void did(const char *call, uint64_t answer) {
+    if (dorrivand_is_done(answer)) {
+        printf("    %-30sdone\n", call);
+    } else {
+        refused(call, answer);
+    }
+}
+
+/* The answer of a call that gives a number. */
+static void got(const char *call, uint64_t answer) {
+    if (dorrivand_is_done(answer)) {
+        printf("    %-30s%u\n", call, (unsigned)dorrivand_number(answer));
+    } else {
+        refused(call, answer);
+    }
+}
+
+static void open_for(const char *purpose, const char *name, uint64_t answer) {
+    char call[64];
+    snprintf(call, sizeof call, "open for %s \"%s\"", purpose, name);
+    did(call, answer);
+}
+
+/* Reads a file from its begin to its end. */
+static void read_all(uint32_t user, const char *name) {
+    uint64_t answer;
+    open_for("reading", name, dorrivand_read(LENT, user, 1, NAMED(name)));
+    do {
+        answer = dorrivand_next(LENT, user, 1, 2);
+        got("next", answer);
+    } while (dorrivand_is_done(answer));
+    did("close private", dorrivand_close(LENT, user, 1));
+}
+
+static void make_two_files(void) {
+    part("Landlord 2 makes a file of fault records for lift 7: numbers of 16 bits, private.");
+    did("open new", dorrivand_new(LENT, 2, 0, 4));
+    did("append 301", dorrivand_write(LENT, 2, 0, 1, 301));
+    did("append 417", dorrivand_write(LENT, 2, 0, 1, 417));
+    did("append 208", dorrivand_write(LENT, 2, 0, 1, 208));
+    did("rename to \"lift 7\"", dorrivand_rename(LENT, 2, 0, NAMED("lift 7")));
+    did("close private", dorrivand_close(LENT, 2, 0));
+
+    part("Landlord 5 makes one for door 1: numbers of 8 bits, public. 300 is too wide and loses its top bits.");
+    did("open new", dorrivand_new(LENT, 5, 0, 3));
+    did("append 12", dorrivand_write(LENT, 5, 0, 1, 12));
+    did("append 300", dorrivand_write(LENT, 5, 0, 1, 300));
+    did("rename to \"door 1\"", dorrivand_rename(LENT, 5, 0, NAMED("door 1")));
+    did("close public", dorrivand_public(LENT, 5, 0));
+    got("free segments", dorrivand_free(LENT, 5));
+}
+
+static void read_and_be_refused(void) {
+    part("Landlord 2 reads both files. Nobody but the owner works on a public one.");
+    read_all(2, "lift 7");
+    read_all(2, "door 1");
+    open_for("work", "door 1", dorrivand_work(LENT, 2, 0, NAMED("door 1")));
+
+    part("The neighbour, landlord 5, asks for lift 7, which is not his.");
+    open_for("reading", "lift 7", dorrivand_read(LENT, 5, 0, NAMED("lift 7")));
+    open_for("work", "lift 7", dorrivand_work(LENT, 5, 0, NAMED("lift 7")));
+}
+
+static void edit(void) {
+    part("Landlord 2 edits lift 7 and abandons the edit: nothing of it is left.");
+    open_for("work", "lift 7", dorrivand_work(LENT, 2, 0, NAMED("lift 7")));
+    did("replace the first by 999", dorrivand_write(LENT, 2, 0, 2, 999));
+    got("take the last away", dorrivand_prev(LENT, 2, 0, 1));
+    did("append 111", dorrivand_write(LENT, 2, 0, 1, 111));
+    got("free segments", dorrivand_free(LENT, 2));
+    did("abandon", dorrivand_abandon(LENT, 2, 0));
+    got("free segments", dorrivand_free(LENT, 2));
+    read_all(2, "lift 7");
+
+    part("Fault 301 is mended, and a new one comes in. This edit is closed.");
+    open_for("work", "lift 7", dorrivand_work(LENT, 2, 0, NAMED("lift 7")));
+    got("take the first away", dorrivand_next(LENT, 2, 0, 0));
+    did("append 522", dorrivand_write(LENT, 2, 0, 1, 522));
+    got("begin", dorrivand_begin(LENT, 2, 0));
+    got("end", dorrivand_end(LENT, 2, 0));
+    did("close private", dorrivand_close(LENT, 2, 0));
+    got("free segments", dorrivand_free(LENT, 2));
+}
+
+static void save_and_load(uint32_t *image) {
+    part("In the evening the operator saves. After another fresh start the load brings all back.");
+    did("save", dorrivand_save(LENT, image, dorrivand_image_length()));
+    printf("    %-30s0x%08lX\n", "first cell of the image", (unsigned long)image[0]);
+    did("fresh start", dorrivand_fresh(LENT));
+    open_for("reading", "lift 7", dorrivand_read(LENT, 2, 0, NAMED("lift 7")));
+    got("free segments", dorrivand_free(LENT, 2));
+    did("load", dorrivand_load(LENT, image, dorrivand_image_length()));
+    got("free segments", dorrivand_free(LENT, 2));
+    read_all(2, "lift 7");
+}
+
+int main(void) {
+    uint32_t *image = calloc(dorrivand_image_length(), sizeof *image);
+    tables = calloc(dorrivand_tables_length(), sizeof *tables);
+    if (image == NULL || tables == NULL) {
+        fputs("landlords_day: no memory\n", stderr);
+        return EXIT_FAILURE;
+    }
+    puts("In the morning the operator starts a store of 16 segments.");
+    did("fresh start", dorrivand_fresh(LENT));
+    got("free segments", dorrivand_free(LENT, 0));
+    make_two_files();
+    read_and_be_refused();
+    edit();
+    save_and_load(image);
+    free(image);
+    free(tables);
+    return EXIT_SUCCESS;
+}

@@ -1,0 +1,129 @@
+//! Single calls, with arguments that mostly make sense.
+
+use crate::pair::Difference;
+use crate::teller::{bytes_of, Teller, Told};
+
+impl Teller {
+    pub fn any_call(&mut self) -> Told {
+        match self.random.below(16) {
+            0 | 1 => self.open_new().map(|_| ()),
+            2 | 3 => self.open_old().map(|_| ()),
+            4 => self.rename(),
+            5 => self.end_something(),
+            6 | 7 => self.handle_pointers(),
+            8 | 9 => self.inquire(),
+            10 => self.ask_the_operator(),
+            _ => self.access(),
+        }
+    }
+
+    /// The entry, if it was opened.
+    pub fn open_new(&mut self) -> Result<Option<(u32, u32)>, Difference> {
+        let (user, entry) = self.closed_entry();
+        let species = self.random.below(6);
+        let species = self.or_wild(species);
+        let done = self.say(format!("new {user} {entry} {species}"))?;
+        Ok(done.then_some((user, entry)))
+    }
+
+    /// Opens a record that is there, or a name that may not be.
+    pub fn open_old(&mut self) -> Result<Option<(u32, u32)>, Difference> {
+        let call = self.random.one_of(&["work", "work", "read"]);
+        let (user, name) = match self.record() {
+            Some((_, record)) if !self.random.once_in(6) => {
+                let another = self.random.below(8);
+                let user = self.random.one_of(&[record.owner as u32, record.owner as u32, another]);
+                (user, bytes_of(&record.name))
+            }
+            _ => (self.random.below(8), self.name()),
+        };
+        let at = match self.random.once_in(12) {
+            true => (user, self.random.below(4)),
+            false => self.closed_entry_of(user),
+        };
+        let at = (self.or_wild(at.0), self.or_wild(at.1));
+        Ok(self.say_named(call, at, &name)?.then_some(at))
+    }
+
+    pub fn rename(&mut self) -> Told {
+        let at = match self.random.once_in(8) {
+            true => self.open_entry(),
+            false => self.working_entry(),
+        };
+        let name = self.name();
+        self.say_named("rename", at, &name)?;
+        Ok(())
+    }
+
+    pub fn end_something(&mut self) -> Told {
+        let at = self.open_entry();
+        self.end(at)
+    }
+
+    pub fn end(&mut self, (user, entry): (u32, u32)) -> Told {
+        let call = self.random.one_of(&["close", "close", "public", "public", "abandon"]);
+        self.say(format!("{call} {user} {entry}"))?;
+        Ok(())
+    }
+
+    pub fn handle_pointers(&mut self) -> Told {
+        let (user, entry) = self.open_entry();
+        let pointer = self.pointer();
+        let line = match self.random.below(8) {
+            0 => format!("reset {user} {entry}"),
+            1 => format!("delete {user} {entry} {pointer}"),
+            2 => format!("delete {user} {entry} {}", self.random.between(3, 7)),
+            3 => format!("value {user} {entry} {pointer}"),
+            _ => format!("pointer {user} {entry} {pointer}"),
+        };
+        self.say(line)?;
+        Ok(())
+    }
+
+    pub fn access(&mut self) -> Told {
+        let at = match self.random.once_in(4) {
+            true => self.open_entry(),
+            false => self.working_entry(),
+        };
+        let pointer = self.pointer();
+        self.access_through(at, pointer)
+    }
+
+    pub fn access_through(&mut self, (user, entry): (u32, u32), pointer: u32) -> Told {
+        let line = match self.random.below(5) {
+            0 => format!("next {user} {entry} {pointer}"),
+            1 => format!("prev {user} {entry} {pointer}"),
+            _ => format!("write {user} {entry} {pointer} {}", self.random.cell()),
+        };
+        self.say(line)?;
+        Ok(())
+    }
+
+    pub fn inquire(&mut self) -> Told {
+        let (user, entry) = self.open_entry();
+        let call = self.random.one_of(&["species", "claim", "permit", "begin", "end", "symbol", "value", "free"]);
+        let line = match call {
+            "symbol" => {
+                let k = self.random.below(14);
+                format!("symbol {user} {entry} {}", self.or_wild(k))
+            }
+            "value" => format!("value {user} {entry} {}", self.pointer()),
+            "free" => format!("free {user}"),
+            _ => format!("{call} {user} {entry}"),
+        };
+        self.say(line)?;
+        Ok(())
+    }
+
+    pub fn ask_the_operator(&mut self) -> Told {
+        let image = self.random.below(4);
+        let line = match self.random.below(30) {
+            0 => "fresh".to_string(),
+            1..=4 => format!("load {image}"),
+            5..=14 => format!("free {}", self.random.below(8)),
+            _ => format!("save {image}"),
+        };
+        self.say(line)?;
+        Ok(())
+    }
+}

@@ -1,0 +1,110 @@
+//! A landlord's day. It prints every answer; landlords_day.expected has them all.
+
+use dorrivand::{Refusal, Store};
+
+fn part(words: &str) {
+    println!("\n{words}");
+}
+
+/// The answer of a call that gives no number.
+fn did(call: &str, answer: Result<(), Refusal>) {
+    match answer {
+        Ok(()) => println!("    {call:<30}done"),
+        Err(refusal) => println!("    {call:<30}refused {}", refusal.number()),
+    }
+}
+
+/// The answer of a call that gives a number.
+fn got(call: &str, answer: Result<u32, Refusal>) {
+    match answer {
+        Ok(number) => println!("    {call:<30}{number}"),
+        Err(refusal) => println!("    {call:<30}refused {}", refusal.number()),
+    }
+}
+
+/// Reads a file from its begin to its end.
+fn read_all(store: &mut Store, user: u32, name: &str) {
+    did(&format!("open for reading \"{name}\""), store.open_read(user, 1, name));
+    loop {
+        let answer = store.next(user, 1, 2);
+        got("next", answer);
+        if answer.is_err() {
+            break;
+        }
+    }
+    did("close private", store.close_private(user, 1));
+}
+
+fn make_two_files(store: &mut Store) {
+    part("Landlord 2 makes a file of fault records for lift 7: numbers of 16 bits, private.");
+    did("open new", store.open_new(2, 0, 4));
+    did("append 301", store.write(2, 0, 1, 301));
+    did("append 417", store.write(2, 0, 1, 417));
+    did("append 208", store.write(2, 0, 1, 208));
+    did("rename to \"lift 7\"", store.rename(2, 0, "lift 7"));
+    did("close private", store.close_private(2, 0));
+
+    part("Landlord 5 makes one for door 1: numbers of 8 bits, public. 300 is too wide and loses its top bits.");
+    did("open new", store.open_new(5, 0, 3));
+    did("append 12", store.write(5, 0, 1, 12));
+    did("append 300", store.write(5, 0, 1, 300));
+    did("rename to \"door 1\"", store.rename(5, 0, "door 1"));
+    did("close public", store.close_public(5, 0));
+    got("free segments", store.free_segments(5));
+}
+
+fn read_and_be_refused(store: &mut Store) {
+    part("Landlord 2 reads both files. Nobody but the owner works on a public one.");
+    read_all(store, 2, "lift 7");
+    read_all(store, 2, "door 1");
+    did("open for work \"door 1\"", store.open_work(2, 0, "door 1"));
+
+    part("The neighbour, landlord 5, asks for lift 7, which is not his.");
+    did("open for reading \"lift 7\"", store.open_read(5, 0, "lift 7"));
+    did("open for work \"lift 7\"", store.open_work(5, 0, "lift 7"));
+}
+
+fn edit(store: &mut Store) {
+    part("Landlord 2 edits lift 7 and abandons the edit: nothing of it is left.");
+    did("open for work \"lift 7\"", store.open_work(2, 0, "lift 7"));
+    did("replace the first by 999", store.write(2, 0, 2, 999));
+    got("take the last away", store.prev(2, 0, 1));
+    did("append 111", store.write(2, 0, 1, 111));
+    got("free segments", store.free_segments(2));
+    did("abandon", store.abandon(2, 0));
+    got("free segments", store.free_segments(2));
+    read_all(store, 2, "lift 7");
+
+    part("Fault 301 is mended, and a new one comes in. This edit is closed.");
+    did("open for work \"lift 7\"", store.open_work(2, 0, "lift 7"));
+    got("take the first away", store.next(2, 0, 0));
+    did("append 522", store.write(2, 0, 1, 522));
+    got("begin", store.begin(2, 0));
+    got("end", store.end(2, 0));
+    did("close private", store.close_private(2, 0));
+    got("free segments", store.free_segments(2));
+}
+
+fn save_and_load(store: &mut Store) {
+    part("In the evening the operator saves. After another fresh start the load brings all back.");
+    let mut image = vec![0; dorrivand::image_length()];
+    did("save", store.save(&mut image));
+    println!("    {:<30}{:#010X}", "first cell of the image", image[0]);
+    did("fresh start", store.fresh_start());
+    did("open for reading \"lift 7\"", store.open_read(2, 0, "lift 7"));
+    got("free segments", store.free_segments(2));
+    did("load", store.load(&image));
+    got("free segments", store.free_segments(2));
+    read_all(store, 2, "lift 7");
+}
+
+fn main() {
+    println!("In the morning the operator starts a store of 16 segments.");
+    let mut store = Store::from_cells(vec![0; 1024], vec![0; dorrivand::tables_length()]);
+    did("fresh start", store.fresh_start());
+    got("free segments", store.free_segments(0));
+    make_two_files(&mut store);
+    read_and_be_refused(&mut store);
+    edit(&mut store);
+    save_and_load(&mut store);
+}

@@ -1,0 +1,8 @@
+//! The calls, one method each.
+
+mod access;
+mod closing;
+mod inquiries;
+mod opening;
+mod operator;
+mod pointers;

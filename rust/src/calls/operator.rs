@@ -1,0 +1,81 @@
+//! "Fresh start, save and load name no user; they are the operator's, and none of them changes a store cell."
+
+use crate::answer::without_number;
+use crate::door;
+use crate::refusal::Refusal;
+use crate::store::Store;
+
+impl Store<'_> {
+    /// Starts afresh: no files, nothing open, and one segment for every 64 cells of the store, at most 1,024. It does not look
+    /// at what the tables held.
+    ///
+    /// Refusals: [`UnsoundTables`](Refusal::UnsoundTables) (20), for the lengths alone.
+    ///
+    /// ```
+    /// use dorrivand::{Refusal, Store};
+    ///
+    /// let tables = vec![12345; dorrivand::tables_length()];
+    /// let mut store = Store::from_cells(vec![0; 200], tables);
+    /// store.fresh_start()?;
+    /// assert_eq!(store.free_segments(0), Ok(3));
+    ///
+    /// let mut too_short = Store::from_cells(vec![0; 63], vec![0; dorrivand::tables_length()]);
+    /// assert_eq!(too_short.fresh_start(), Err(Refusal::UnsoundTables));
+    /// # Ok::<(), Refusal>(())
+    /// ```
+    pub fn fresh_start(&mut self) -> Result<(), Refusal> {
+        without_number(door::fresh(&self.cells, &mut self.tables))
+    }
+
+    /// Writes the permanent files' records to an image of [`image_length`](crate::image_length) cells, whatever is open.
+    /// The elements stay in the store's cells and are not in the image.
+    ///
+    /// Refusals: [`UnsoundTables`](Refusal::UnsoundTables) (20), then [`UnsoundImage`](Refusal::UnsoundImage) (22), for
+    /// the image's length alone.
+    ///
+    /// ```
+    /// use dorrivand::{Refusal, Store};
+    ///
+    /// let store = Store::with_segments(128)?;
+    /// let mut image = vec![7; dorrivand::image_length()];
+    /// store.save(&mut image)?;
+    /// assert_eq!(image[0], 0x0110_0000);
+    /// assert!(image[1..].iter().all(|&cell| cell == 0));
+    /// assert_eq!(store.save(&mut [0; 10]), Err(Refusal::UnsoundImage));
+    /// # Ok::<(), Refusal>(())
+    /// ```
+    pub fn save(&self, image: &mut [u32]) -> Result<(), Refusal> {
+        without_number(door::save(&self.cells, &self.tables, image))
+    }
+
+    /// Takes the records and the number of segments from an image; nothing is open afterwards. It does not look at
+    /// what the tables held.
+    ///
+    /// Refusals: [`UnsoundTables`](Refusal::UnsoundTables) (20), for the lengths alone, then
+    /// [`UnsoundImage`](Refusal::UnsoundImage) (22).
+    ///
+    /// ```
+    /// use dorrivand::{Refusal, Store};
+    ///
+    /// let mut store = Store::with_segments(128)?;
+    /// store.open_new(2, 0, 5)?;
+    /// store.write(2, 0, 1, 77)?;
+    /// store.rename(2, 0, "a")?;
+    /// store.close_private(2, 0)?;
+    /// let mut image = vec![0; dorrivand::image_length()];
+    /// store.save(&mut image)?;
+    ///
+    /// store.fresh_start()?;
+    /// assert_eq!(store.open_read(2, 0, "a"), Err(Refusal::UnknownName));
+    /// store.load(&image)?;
+    /// store.open_read(2, 0, "a")?;
+    /// assert_eq!(store.next(2, 0, 2), Ok(77));
+    ///
+    /// image[0] = 0;
+    /// assert_eq!(store.load(&image), Err(Refusal::UnsoundImage));
+    /// # Ok::<(), Refusal>(())
+    /// ```
+    pub fn load(&mut self, image: &[u32]) -> Result<(), Refusal> {
+        without_number(door::load(&self.cells, &mut self.tables, image))
+    }
+}

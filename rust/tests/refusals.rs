@@ -1,0 +1,102 @@
+//! Each refusal once, with its number, and that it leaves every cell as it stood.
+
+use dorrivand::{Refusal, Store};
+
+/// What is needed for most refusals: of user 0 a private file "mine" and a public file "ours", of user 1 a private "his".
+fn three_files() -> Store<'static> {
+    let mut store = Store::with_segments(3).expect("there is a segment");
+    for (user, name, public) in [(0, "mine", false), (0, "ours", true), (1, "his", false)] {
+        assert_eq!(store.open_new(user, 0, 5), Ok(()));
+        assert_eq!(store.write(user, 0, 1, 7), Ok(()));
+        assert_eq!(store.rename(user, 0, name), Ok(()));
+        let closed = if public { store.close_public(user, 0) } else { store.close_private(user, 0) };
+        assert_eq!(closed, Ok(()));
+    }
+    store
+}
+
+/// Makes the call, which must be refused with this number and change no cell.
+fn refused<N>(store: &mut Store, number: u32, call: impl FnOnce(&mut Store) -> Result<N, Refusal>) {
+    let before = (store.cells().to_vec(), store.tables().to_vec());
+    let given = call(store).err().map(Refusal::number);
+    assert_eq!(given, Some(number));
+    assert!(before == (store.cells().to_vec(), store.tables().to_vec()), "refusal {number} changed a cell");
+}
+
+#[test]
+fn users_entries_and_pointers() {
+    let mut store = three_files();
+    refused(&mut store, 1, |store| store.free_segments(8));
+    refused(&mut store, 1, |store| store.reset(u32::MAX, 9));
+    refused(&mut store, 2, |store| store.reset(0, 0));
+    refused(&mut store, 2, |store| store.open_new(0, 4, 9));
+    assert_eq!(store.open_work(0, 0, "mine"), Ok(()));
+    refused(&mut store, 3, |store| store.open_new(0, 0, 9));
+    refused(&mut store, 4, |store| store.value(0, 0, 3));
+    refused(&mut store, 4, |store| store.delete_pointer(0, 0, 2));
+    for name in 3..=7 {
+        assert_eq!(store.new_pointer(0, 0, 2), Ok(name));
+    }
+    refused(&mut store, 21, |store| store.new_pointer(0, 0, 2));
+}
+
+#[test]
+fn opening() {
+    let mut store = three_files();
+    refused(&mut store, 11, |store| store.open_read(0, 0, "nobodys"));
+    refused(&mut store, 12, |store| store.open_read(0, 0, "his"));
+    refused(&mut store, 13, |store| store.open_work(1, 0, "ours"));
+    refused(&mut store, 15, |store| store.open_work(1, 0, "\n"));
+    refused(&mut store, 19, |store| store.open_new(1, 0, 6));
+    assert_eq!(store.open_read(1, 0, "ours"), Ok(()));
+    refused(&mut store, 14, |store| store.open_work(0, 0, "ours"));
+}
+
+#[test]
+fn access() {
+    let mut store = three_files();
+    assert_eq!(store.open_read(0, 1, "ours"), Ok(()));
+    refused(&mut store, 5, |store| store.write(0, 1, 1, 7));
+    refused(&mut store, 5, |store| store.rename(0, 1, "a"));
+    assert_eq!(store.open_work(0, 0, "mine"), Ok(()));
+    refused(&mut store, 6, |store| store.prev(0, 0, 2));
+    refused(&mut store, 9, |store| store.write(0, 0, 2, 8));
+    assert_eq!(store.next(0, 0, 2), Ok(7));
+    refused(&mut store, 7, |store| store.next(0, 0, 2));
+}
+
+#[test]
+fn closing() {
+    let mut store = three_files();
+    assert_eq!(store.open_work(0, 0, "mine"), Ok(()));
+    assert_eq!(store.rename(0, 0, "ours"), Ok(()));
+    refused(&mut store, 16, |store| store.close_private(0, 0));
+    assert_eq!(store.rename(0, 0, ""), Ok(()));
+    refused(&mut store, 18, |store| store.close_public(0, 0));
+}
+
+#[test]
+fn the_65th_file() {
+    let mut store = Store::with_segments(1).expect("there is a segment");
+    for number in 0..64 {
+        assert_eq!(store.open_new(0, 0, 0), Ok(()));
+        assert_eq!(store.rename(0, 0, number.to_string()), Ok(()));
+        assert_eq!(store.close_private(0, 0), Ok(()));
+    }
+    assert_eq!(store.open_new(0, 0, 0), Ok(()));
+    assert_eq!(store.rename(0, 0, "64"), Ok(()));
+    refused(&mut store, 17, |store| store.close_private(0, 0));
+}
+
+#[test]
+fn tables_and_images() {
+    let mut store = three_files();
+    let mut image = vec![5; 896];
+    refused(&mut store, 22, |store| store.save(&mut image));
+    assert!(image == [5; 896]);
+    refused(&mut store, 22, |store| store.load(&[0; 897]));
+    store.tables_mut()[0] = 4;
+    refused(&mut store, 20, |store| store.free_segments(8));
+    refused(&mut store, 20, |store| store.save(&mut image));
+    assert!(image == [5; 896]);
+}
