@@ -1,45 +1,34 @@
-//! Tables to measure on.
+//! Tables to measure on and to begin histories from.
+use crate::twin::TABLES;
 
-/// A record at a place: its name, its owner, private, species 5 from position 1, and the segments from `first` on.
-fn file(tables: &mut [u32], place: usize, name: [u32; 12], owner: u32, first: u32, held: u32) {
-    let at = 1 + 50 * place;
-    tables[at] = 1;
-    tables[at + 1..at + 13].copy_from_slice(&name);
-    tables[at + 13] = owner;
-    tables[at + 14] = 1;
-    tables[at + 15] = 5;
-    tables[at + 16] = 1;
-    tables[at + 17] = 1 + 64 * held;
-    for k in 0..held {
-        tables[at + 18 + k as usize] = first + k;
+pub const CELLS: usize = 65_536;
+const SEGMENTS: u32 = 1024;
+/// E of species 0 to 5.
+const ELEMENTS: [u32; 6] = [2048, 1024, 512, 256, 128, 64];
+
+/// A file: its species, its begin and end, and the first of its segments, which follow each other.
+#[derive(Clone, Copy)]
+pub struct Content {
+    pub species: u32,
+    pub begin: u32,
+    pub end: u32,
+    pub first: u32,
+}
+
+impl Content {
+    fn segments(self) -> impl Iterator<Item = u32> {
+        let per_segment = ELEMENTS[self.species as usize];
+        let stretches =
+            if self.begin == self.end { 0 } else { (self.end - 2) / per_segment + 1 - (self.begin - 1) / per_segment };
+        self.first..self.first + stretches
     }
 }
 
-/// A read opening of the record at a place.
-fn reading(tables: &mut [u32], entry: usize, place: usize) {
-    let (from, to) = (1 + 50 * place, 3201 + 56 * entry);
-    tables[to] = 1;
-    tables[to + 1] = place as u32 + 1;
-    tables[to + 3] = tables[from + 15];
-    tables[to + 4] = tables[from + 16];
-    tables[to + 5] = tables[from + 17];
-    tables[to + 6] = tables[from + 16];
-    for k in 0..12 {
-        tables[to + 12 + k] = tables[from + 1 + k];
-    }
-    for k in 0..32 {
-        tables[to + 24 + k] = tables[from + 18 + k];
-    }
-}
+/// Twelve symbols.
+type Name = [u32; 12];
 
-fn empty() -> Vec<u32> {
-    let mut tables = vec![0; super::twin::TABLES];
-    tables[0] = 1024;
-    tables
-}
-
-/// Names that differ in the first symbol.
-fn short(place: usize) -> [u32; 12] {
+/// Names of two symbols from 0 to 7.
+pub fn short(place: usize) -> Name {
     let mut name = [63; 12];
     name[0] = (place / 8) as u32;
     name[1] = (place % 8) as u32;
@@ -47,36 +36,81 @@ fn short(place: usize) -> [u32; 12] {
 }
 
 /// Names alike in ten symbols.
-fn alike(place: usize) -> [u32; 12] {
+fn alike(place: usize) -> Name {
     let mut name = [7; 12];
     name[10] = (place / 8) as u32;
     name[11] = (place % 8) as u32;
     name
 }
 
-/// So many records that hold so many segments each, with names by place; so many entries read a record of their user's.
-fn filled(records: usize, name: fn(usize) -> [u32; 12], held: u32, openings: usize) -> Vec<u32> {
+pub fn empty() -> Vec<u32> {
+    let mut tables = vec![0; TABLES];
+    tables[0] = SEGMENTS;
+    tables
+}
+
+/// A private record at a place.
+pub fn file(tables: &mut [u32], place: usize, name: Name, owner: u32, content: Content) {
+    let cells = &mut tables[1 + 50 * place..51 + 50 * place];
+    cells[0] = 1;
+    cells[1..13].copy_from_slice(&name);
+    cells[13..18].copy_from_slice(&[owner, 1, content.species, content.begin, content.end]);
+    for (cell, segment) in cells[18..].iter_mut().zip(content.segments()) {
+        *cell = segment;
+    }
+}
+
+/// A new file that an entry has open, its work pointer at the begin.
+pub fn open_new(tables: &mut [u32], entry: usize, content: Content) {
+    let cells = &mut tables[3201 + 56 * entry..3257 + 56 * entry];
+    cells[..4].copy_from_slice(&[1, 0, 1, content.species]);
+    cells[4..7].copy_from_slice(&[content.begin, content.end, content.begin]);
+    cells[12..24].fill(63);
+    for (cell, segment) in cells[24..].iter_mut().zip(content.segments()) {
+        *cell = segment;
+    }
+}
+
+/// A read opening of the record at a place.
+fn reading(tables: &mut [u32], entry: usize, place: usize) {
+    let filed: Vec<u32> = tables[1 + 50 * place..51 + 50 * place].to_vec();
+    let cells = &mut tables[3201 + 56 * entry..3257 + 56 * entry];
+    cells[..4].copy_from_slice(&[1, place as u32 + 1, 0, filed[15]]);
+    cells[4..7].copy_from_slice(&[filed[16], filed[17], filed[16]]);
+    cells[12..24].copy_from_slice(&filed[1..13]);
+    cells[24..].copy_from_slice(&filed[18..]);
+}
+
+/// So many records of species 5 that hold so many segments each, the one at place p of user p mod 8, from the first segment on.
+pub fn filled(records: usize, name: fn(usize) -> Name, held: u32) -> Vec<u32> {
     let mut tables = empty();
     for place in 0..records {
-        file(&mut tables, place, name(place), (place % 8) as u32, held * place as u32, held);
-    }
-    for entry in 0..openings {
-        let owner = entry / 4;
-        reading(&mut tables, entry, owner + 8 * (entry % 4));
+        let content = Content { species: 5, begin: 1, end: 1 + 64 * held, first: held * place as u32 };
+        file(&mut tables, place, name(place), (place % 8) as u32, content);
     }
     tables
 }
 
-pub fn all() -> Vec<(&'static str, Vec<u32>)> {
+/// Every entry reads a record of its user's.
+fn all_reading(mut tables: Vec<u32>) -> Vec<u32> {
+    for entry in 0..32 {
+        reading(&mut tables, entry, entry / 4 + 8 * (entry % 4));
+    }
+    tables
+}
+
+/// The tables that the decisions are measured on.
+pub fn for_decisions() -> Vec<(&'static str, Vec<u32>)> {
     vec![
         ("empty tables", empty()),
-        ("20 records, 320 segments listed", filled(20, short, 16, 0)),
-        ("64 records, 1,024 segments listed, 32 openings", filled(64, short, 16, 32)),
+        ("20 records, 320 segments listed", filled(20, short, 16)),
+        ("64 records, 1,024 segments listed, 32 openings", all_reading(filled(64, short, 16))),
         ("64 records, 1,008 segments listed, no opening", {
-            let mut tables = filled(63, short, 16, 0);
-            file(&mut tables, 63, short(63), 7, 0, 0);
+            let mut tables = filled(63, short, 16);
+            file(&mut tables, 63, short(63), 7, Content { species: 5, begin: 1, end: 1, first: 0 });
             tables
         }),
-        ("64 names alike in ten symbols", filled(64, alike, 16, 32)),
+        ("64 records, 960 segments listed, no opening", filled(64, short, 15)),
+        ("64 names alike in ten symbols", all_reading(filled(64, alike, 16))),
     ]
 }

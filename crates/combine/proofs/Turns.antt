@@ -1,14 +1,14 @@
 -- A turn of each kind of loop over a row of cells. Assumes nothing.
 use Prim.Native.Nat.{ℕ, zero, suc, _+_, _<_}
-use mathlib.Core.Path.{_≡_, sym, ap, _∙_}
-use mathlib.Core.Bool.{_&&_}
+use mathlib.Core.Path.{_≡_, refl, sym, ap, _∙_}
+use mathlib.Core.Bool.{Bool, true, false, _&&_}
 use mathlib.Core.List.{List, [], _∷_, _++_}
 use native.Mathlib.Numerals.{add-one}
 use native.Mathlib.Omega.{arith}
 use lib.Dec.{eqb, eqb·suc-zero}
 use lib.ListN.{length, getD, take, set}
 use lib.Seq.{take-suc, take-suc-set, take-all}
-use Rattle.combine.specs.Below.{allBelow, all-suc}
+use Rattle.combine.specs.Below.{allBelow, all-suc, failed}
 
 -- the first k of a list are those of another: one more
 pub fill-turn : (wanted cells : List ℕ) (k v : ℕ) → k < length wanted → length cells ≡ length wanted → v ≡ getD wanted k 0 → take k cells ≡ take k wanted → take (k + 1) (set cells k v) ≡ take (k + 1) wanted
@@ -29,7 +29,11 @@ sum-zero (suc a) b =
     let l : (eqb (suc a) 0 && eqb b 0) ≡ eqb (suc (a + b)) 0 = rw (eqb·suc-zero a, eqb·suc-zero (a + b)) in
     l ∙ ap (λ (n : ℕ). eqb n 0) e
 
--- a sum that tells whether all cells before k are zero, with the next cell added
-pub sum-turn : (cells : List ℕ) (k sum v : ℕ) → v ≡ getD cells k 0 → eqb sum 0 ≡ allBelow k (λ j. eqb (getD cells j 0) 0) → eqb (sum + v) 0 ≡ allBelow (k + 1) (λ j. eqb (getD cells j 0) 0)
-sum-turn cells k sum v e h =
-    sym (sum-zero sum v) ∙ (λ j. h j && eqb (e j) 0) ∙ sym (all-suc (λ j. eqb (getD cells j 0) 0) k)
+failed-none : (b : Bool) → eqb (failed b) 0 ≡ b
+failed-none true = refl
+failed-none false = refl
+
+-- a number of tests failed that tells whether all before k are passed, with the next added
+pub sum-turn : (f : ℕ → Bool) (k sum v : ℕ) → v ≡ failed (f k) → eqb sum 0 ≡ allBelow k f → eqb (sum + v) 0 ≡ allBelow (k + 1) f
+sum-turn f k sum v e h =
+    sym (sum-zero sum v) ∙ (λ j. h j && (ap (λ (n : ℕ). eqb n 0) e ∙ failed-none (f k)) j) ∙ sym (all-suc f k)

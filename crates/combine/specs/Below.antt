@@ -10,6 +10,11 @@ use native.Mathlib.Nat.{not-suc-le-zero, eq-or-lt-of-le, le-of-suc-le-suc, le-an
 use native.Mathlib.Numerals.{add-one}
 use native.Mathlib.Omega.{arith}
 
+-- how many of one test fail
+abbrev pub failed : Bool → ℕ
+failed true = 0
+failed false = 1
+
 unfoldable pub allBelow : ℕ → (ℕ → Bool) → Bool
 allBelow zero f = true
 allBelow (suc n) f = allBelow n f && f n

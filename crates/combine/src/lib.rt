@@ -3,24 +3,37 @@ ghost use mathlib.Core.Path.{_≡_};
 ghost use Prim.Native.Nat.{ℕ, _≤_};
 ghost use lib.ListN.{getD, length, replicate};
 ghost use lib.Dec.{eqb, ltb};
-ghost use Rattle.combine.specs.Below.{allBelow};
+ghost use Rattle.combine.specs.Below.{allBelow, failed};
 ghost use Rattle.combine.specs.Lists.{same};
 
-fn wide(cell: u32) -> u64
-    ensures { λ r. ⌜ r ≡ cell ⌝ }
+// How many tests a cell fails, 0 or 1: a sum of these has no early exit, so that the compiler makes a loop over cells wide.
+fn set(cell: u32) -> u32
+    ensures { λ r. ⌜ (r ≡ failed (eqb cell 0)) × (r ≤ 1) ⌝ }
 {
-    cell as u64
+    if cell == 0 {
+        return 0;
+    }
+    1
 }
 
-// Whether all cells are zero: a sum of cells, so that the loop has no early exit and the compiler makes it wide.
+fn beyond(cell: u32, bound: u32) -> u32
+    ensures { λ r. ⌜ (r ≡ failed (ltb cell bound)) × (r ≤ 1) ⌝ }
+{
+    if cell < bound {
+        return 0;
+    }
+    1
+}
+
+// Whether all cells are zero.
 pub fn all_zero(cells: &[u32]) -> bool
     requires { ⌜ length (now cells) ≤ 65536 ⌝ }
     ensures { λ r. ⌜ r ≡ allBelow (length (now (cells .entry))) (λ k. eqb (getD (now (cells .entry)) k 0) 0) ⌝ }
 {
-    let mut sum: u64 = 0;
+    let mut sum: u32 = 0;
     let mut i = 0;
     while i < cells.len() {
-        sum += wide(cells[i]);
+        sum += set(cells[i]);
         i += 1;
     }
     sum == 0
@@ -42,16 +55,16 @@ pub fn all_equal(cells: &[u32], number: u32) -> bool
 
 // Whether all cells are below the bound.
 pub fn all_below(cells: &[u32], bound: u32) -> bool
+    requires { ⌜ length (now cells) ≤ 65536 ⌝ }
     ensures { λ r. ⌜ r ≡ allBelow (length (now (cells .entry))) (λ k. ltb (getD (now (cells .entry)) k 0) bound) ⌝ }
 {
+    let mut sum: u32 = 0;
     let mut i = 0;
     while i < cells.len() {
-        if cells[i] >= bound {
-            return false;
-        }
+        sum += beyond(cells[i], bound);
         i += 1;
     }
-    true
+    sum == 0
 }
 
 // Whether two rows of cells are the same.

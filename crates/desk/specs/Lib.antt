@@ -1,2 +1,4 @@
--- Lines that are no calls. Assumes nothing.
-pub mod Buffers
+-- Every line of a history. Assumes nothing.
+pub mod Desk
+pub mod Laws
+pub mod Speaking

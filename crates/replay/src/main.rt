@@ -91,16 +91,16 @@ fn answer(
     lengths: [u32; 6],
     text: &[u8],
     n: usize,
-) -> desk::Answered {
+) -> buffers::Answered {
     if 272 < n {
-        return desk::Answered {
+        return buffers::Answered {
             reply: Reply::Bad,
             lengths,
         };
     }
     let to = 65536 + n;
     if text.len() < to {
-        return desk::Answered {
+        return buffers::Answered {
             reply: Reply::Bad,
             lengths,
         };

@@ -1,32 +1,35 @@
--- `combine::all_below` meets its contract: all cells before `i` passed the test. Assumes nothing.
-use Prim.Native.Nat.{_≤_, _-_}
-use mathlib.Core.Path.{_≡_}
-use mathlib.Core.Bool.{true}
+-- `combine::all_below` meets its contract: the sum is zero where all cells before `i` pass the test, and fits by their number. Assumes nothing.
+use Prim.Native.Nat.{ℕ, _≤_, _-_}
+use mathlib.Core.Path.{_≡_, sym, ap, _∙_}
 use native.Mathlib.Omega.{arith}
-use borrow.Author.Tests.{lt-ltb, le-ltb}
+use denote.Ref.{now}
 use lib.ListN.{length, getD}
-use lib.Dec.{ltb}
-use Rattle.combine.specs.Below.{allBelow, all-zero, all-more, loop-true, loop-false}
+use lib.Dec.{eqb, ltb}
+use Rattle.combine.specs.Below.{allBelow, all-zero}
+use Rattle.combine.proofs.Turns.{sum-turn}
 use Rattle.combine.proofs.all_below.Statement.{statement}
 use Rattle.combine.proofs.all_below.Tie as tie
 
 abbrev Inv-loop : tie.InvT-loop
-Inv-loop cells bound i₀ i = (i ≤ length cells) × (allBelow i (λ k. ltb (getD cells k 0) bound) ≡ true)
+Inv-loop cells bound sum₀ i₀ sum i = (i ≤ length cells) × (sum ≤ i) × (eqb sum 0 ≡ allBelow i (λ k. ltb (getD cells k 0) bound))
 
 abbrev μ-loop : tie.MeasureT-loop
-μ-loop cells bound i₀ i = length cells - i
+μ-loop cells bound sum₀ i₀ sum i = length cells - i
 
 loop-holds : tie.Need-loop-holds Inv-loop μ-loop
-loop-holds c = (omega arith, all-zero _)
+loop-holds c = (omega arith, omega arith, sym (all-zero _))
 
-mul-if1 : tie.Need-mul-if1 Inv-loop μ-loop
-mul-if1 c = omega arith
+mul-beyond : tie.Need-mul-beyond Inv-loop μ-loop
+mul-beyond c = omega arith
 
-shared-slice-read-if1 : tie.Need-shared-slice-read-if1 Inv-loop μ-loop
-shared-slice-read-if1 c = omega arith
+shared-slice-read-beyond : tie.Need-shared-slice-read-beyond Inv-loop μ-loop
+shared-slice-read-beyond c = omega arith
 
-returns : tie.Need-returns Inv-loop μ-loop
-returns c = loop-false _ _ _ (omega arith) (le-ltb _ _ (c .if1 .taken))
+beyond-requires : tie.Need-beyond-requires Inv-loop μ-loop
+beyond-requires c κs = tt
+
+add-sum : tie.Need-add-sum Inv-loop μ-loop
+add-sum c = omega arith
 
 add-i : tie.Need-add-i Inv-loop μ-loop
 add-i c = omega arith
@@ -35,10 +38,10 @@ loop-less : tie.Need-loop-less Inv-loop μ-loop
 loop-less c = omega arith
 
 loop-again : tie.Need-loop-again Inv-loop μ-loop
-loop-again c = (omega arith, all-more _ _ (c .before .before .before .loop .inv .1) (lt-ltb _ _ (c .if1 .left)))
+loop-again c = let l = c .before .before .before .loop in (omega arith, omega arith, sum-turn (λ k. ltb (getD (now (c .before .before .before .before .before .args .cells)) k 0) (c .before .before .before .before .before .args .bound)) (l .i) (l .sum) _ (c .beyond .ensures .0) (l .inv .2))
 
-returns-2 : tie.Need-returns-2 Inv-loop μ-loop
-returns-2 c = loop-true _ _ _ (omega arith) (omega arith) (c .before .loop .inv .1)
+returns : tie.Need-returns Inv-loop μ-loop
+returns c = let cells = now (c .before .before .before .args .cells) in let e : c .before .loop .i ≡ length cells = omega arith in c .before .loop .inv .2 ∙ ap (λ (n : ℕ). allBelow n (λ k. ltb (getD cells k 0) (c .before .before .before .args .bound))) e
 
 pub all-below-spec : {M : Type 1} → statement M
 all-below-spec =
@@ -47,10 +50,11 @@ all-below-spec =
     Inv-loop
     μ-loop
     loop-holds
-    mul-if1
-    shared-slice-read-if1
-    returns
+    mul-beyond
+    shared-slice-read-beyond
+    beyond-requires
+    add-sum
     add-i
     loop-less
     loop-again
-    returns-2)
+    returns)

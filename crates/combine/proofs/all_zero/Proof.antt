@@ -1,5 +1,5 @@
--- `combine::all_zero` meets its contract: the sum is zero where all cells before `i` are, and fits by their number. Assumes nothing.
-use Prim.Native.Nat.{ℕ, _≤_, _-_, _*_}
+-- `combine::all_zero` meets its contract: the sum is zero where all cells before `i` pass the test, and fits by their number. Assumes nothing.
+use Prim.Native.Nat.{ℕ, _≤_, _-_}
 use mathlib.Core.Path.{_≡_, sym, ap, _∙_}
 use native.Mathlib.Omega.{arith}
 use denote.Ref.{now}
@@ -11,7 +11,7 @@ use Rattle.combine.proofs.all_zero.Statement.{statement}
 use Rattle.combine.proofs.all_zero.Tie as tie
 
 abbrev Inv-loop : tie.InvT-loop
-Inv-loop cells sum₀ i₀ sum i = (i ≤ length cells) × (sum ≤ 4294967295 * i) × (eqb sum 0 ≡ allBelow i (λ k. eqb (getD cells k 0) 0))
+Inv-loop cells sum₀ i₀ sum i = (i ≤ length cells) × (sum ≤ i) × (eqb sum 0 ≡ allBelow i (λ k. eqb (getD cells k 0) 0))
 
 abbrev μ-loop : tie.MeasureT-loop
 μ-loop cells sum₀ i₀ sum i = length cells - i
@@ -19,17 +19,17 @@ abbrev μ-loop : tie.MeasureT-loop
 loop-holds : tie.Need-loop-holds Inv-loop μ-loop
 loop-holds c = (omega arith, omega arith, sym (all-zero _))
 
-mul-wide : tie.Need-mul-wide Inv-loop μ-loop
-mul-wide c = omega arith
+mul-set : tie.Need-mul-set Inv-loop μ-loop
+mul-set c = omega arith
 
-shared-slice-read-wide : tie.Need-shared-slice-read-wide Inv-loop μ-loop
-shared-slice-read-wide c = omega arith
+shared-slice-read-set : tie.Need-shared-slice-read-set Inv-loop μ-loop
+shared-slice-read-set c = omega arith
 
-wide-requires : tie.Need-wide-requires Inv-loop μ-loop
-wide-requires c κs = tt
+set-requires : tie.Need-set-requires Inv-loop μ-loop
+set-requires c κs = tt
 
 add-sum : tie.Need-add-sum Inv-loop μ-loop
-add-sum c = omega (arith, c .before .before .before .before .shared-slice-known .given (c .before .before .before .loop .i))
+add-sum c = omega arith
 
 add-i : tie.Need-add-i Inv-loop μ-loop
 add-i c = omega arith
@@ -38,15 +38,10 @@ loop-less : tie.Need-loop-less Inv-loop μ-loop
 loop-less c = omega arith
 
 loop-again : tie.Need-loop-again Inv-loop μ-loop
-loop-again c =
-    let l = c .before .before .before .loop in
-    (omega arith, omega (arith, c .before .before .before .before .shared-slice-known .given (l .i)), sum-turn (now (c .before .before .before .before .before .args .cells)) (l .i) (l .sum) (c .wide .result) (c .wide .ensures) (l .inv .2))
+loop-again c = let l = c .before .before .before .loop in (omega arith, omega arith, sum-turn (λ k. eqb (getD (now (c .before .before .before .before .before .args .cells)) k 0) 0) (l .i) (l .sum) _ (c .set .ensures .0) (l .inv .2))
 
 returns : tie.Need-returns Inv-loop μ-loop
-returns c =
-    let cells = now (c .before .before .before .args .cells) in
-    let e : c .before .loop .i ≡ length cells = omega arith in
-    c .before .loop .inv .2 ∙ ap (λ (n : ℕ). allBelow n (λ k. eqb (getD cells k 0) 0)) e
+returns c = let cells = now (c .before .before .before .args .cells) in let e : c .before .loop .i ≡ length cells = omega arith in c .before .loop .inv .2 ∙ ap (λ (n : ℕ). allBelow n (λ k. eqb (getD cells k 0) 0)) e
 
 pub all-zero-spec : {M : Type 1} → statement M
 all-zero-spec =
@@ -55,9 +50,9 @@ all-zero-spec =
     Inv-loop
     μ-loop
     loop-holds
-    mul-wide
-    shared-slice-read-wide
-    wide-requires
+    mul-set
+    shared-slice-read-set
+    set-requires
     add-sum
     add-i
     loop-less

@@ -1,12 +1,13 @@
+use Rattle.buffers.specs.Laws.{sum-on, sum-end}
 use borrow.Author.Needs.{needs}
 use Prim.Native.Nat.{_-_}
 use mathlib.Core.Path.{_≡_}
 use lib.ListN.{length, drop}
 use native.Mathlib.Omega.{arith}
 use denote.Ref.{now}
-use Rattle.desk.specs.Buffers.{sumOf, sum-on, sum-end}
-use Rattle.desk.proofs.sum.Statement.{statement}
-use Rattle.desk.proofs.sum.Tie as tie
+use Rattle.buffers.specs.Buffers.{sumOf}
+use Rattle.buffers.proofs.sum.Statement.{statement}
+use Rattle.buffers.proofs.sum.Tie as tie
 
 abbrev Inv-loop : tie.InvT-loop
 Inv-loop cells h₀ i₀ h i = sumOf h (drop i cells) ≡ sumOf 0 cells

@@ -1,8 +1,8 @@
 use native.Mathlib.Omega.{arith}
-use Rattle.desk.specs.Buffers.{peek-beyond, peek-there}
+use Rattle.buffers.specs.Laws.{peek-beyond, peek-there}
 use borrow.Author.Needs.{needs}
-use Rattle.desk.proofs.peek.Statement.{statement}
-use Rattle.desk.proofs.peek.Tie as tie
+use Rattle.buffers.proofs.peek.Statement.{statement}
+use Rattle.buffers.proofs.peek.Tie as tie
 
 returns : tie.Need-returns
 returns c = peek-beyond _ _ (c .if1 .taken)

@@ -1,0 +1,152 @@
+//! Random calls: all users and entries, numbers mostly in range and sometimes wild. They look at the tables, so that many of them are done.
+use crate::calls::{At, Call};
+use crate::random::Random;
+
+/// Names that the calls use again and again: of one symbol, of twelve, with blanks, empty ones.
+const NAMES: [&[u8]; 10] =
+    [b"a", b"b", b"c", b"d", b"lift 7", b"0123456789ab", b"0123456789abcd", b" z\tz\nz", b"", b"Lift"];
+
+pub struct Chance {
+    pub random: Random,
+    /// The last call, and how often it is still to be made again.
+    last: Call,
+    again: u32,
+}
+
+impl Chance {
+    pub fn new(seed: u64) -> Chance {
+        Chance { random: Random(seed), last: Call::Fresh, again: 0 }
+    }
+
+    /// A call. An access is now and then made many times over, and a pointer asked for several times.
+    pub fn call(&mut self, tables: &[u32]) -> Call {
+        if self.again > 0 {
+            self.again -= 1;
+            return self.last.clone();
+        }
+        let call = match self.random.below(100) {
+            0..=1 => self.operators(),
+            2..=24 => self.openings(tables),
+            25..=34 => self.endings(tables),
+            35..=79 => self.accesses(tables),
+            _ => self.others(tables),
+        };
+        self.again = match call {
+            Call::Write(..) | Call::Next(..) | Call::Prev(..) if self.random.one_in(3) => self.random.below(200),
+            Call::Pointer(..) => self.random.below(4),
+            _ => 0,
+        };
+        self.last = call.clone();
+        call
+    }
+
+    /// A refused call is made again once at most.
+    pub fn heard(&mut self, done: bool) {
+        if !done {
+            self.again = self.again.min(1);
+        }
+    }
+
+    fn anywhere(&mut self) -> At {
+        (self.random.mostly_below(8), self.random.mostly_below(4))
+    }
+
+    /// An entry that is open, mostly.
+    fn open(&mut self, tables: &[u32]) -> At {
+        let open: Vec<u32> = (0..32).filter(|&entry| tables.get(3201 + 56 * entry as usize) == Some(&1)).collect();
+        match self.random.one_of(&open) {
+            Some(entry) if !self.random.one_in(20) => (entry / 4, entry % 4),
+            _ => self.anywhere(),
+        }
+    }
+
+    /// Mostly the begin, the end or the work pointer.
+    fn pointer(&mut self) -> u32 {
+        if self.random.one_in(4) {
+            return self.random.mostly_below(8);
+        }
+        self.random.below(3)
+    }
+
+    fn name(&mut self) -> Vec<u8> {
+        match self.random.below(8) {
+            0 => (0..self.random.below(16)).map(|_| self.random.number() as u8).collect(),
+            1..=2 => vec![b'0' + self.random.below(8) as u8, b'0' + self.random.below(8) as u8],
+            _ => NAMES[self.random.below(NAMES.len() as u32) as usize].to_vec(),
+        }
+    }
+
+    /// The owner and the name of a record, if there is one.
+    fn filed(&mut self, tables: &[u32]) -> Option<(u32, Vec<u8>)> {
+        let used: Vec<&[u32]> =
+            tables.get(1..)?.chunks(50).take(64).filter(|cells| cells.len() == 50 && cells[0] == 1).collect();
+        let cells = self.random.one_of(&used)?;
+        let byte = |&symbol: &u32| b"0123456789abcdefghijklmnopqrstuvwxyz".get(symbol as usize).copied();
+        Some((cells[13], cells[1..13].iter().map_while(byte).collect()))
+    }
+
+    fn operators(&mut self) -> Call {
+        match self.random.below(40) {
+            0 => Call::Fresh,
+            1..=4 => Call::Load,
+            _ => Call::Save,
+        }
+    }
+
+    fn openings(&mut self, tables: &[u32]) -> Call {
+        let (mut user, entry) = self.anywhere();
+        if self.random.one_in(3) {
+            return Call::New((user, entry), self.random.mostly_below(6));
+        }
+        let mut name = self.name();
+        if let Some((owner, filed)) = self.filed(tables) {
+            if !self.random.one_in(4) {
+                name = filed;
+            }
+            if !self.random.one_in(4) {
+                user = owner;
+            }
+        }
+        if self.random.one_in(3) {
+            return Call::Read((user, entry), name);
+        }
+        Call::Work((user, entry), name)
+    }
+
+    fn endings(&mut self, tables: &[u32]) -> Call {
+        let at = self.open(tables);
+        match self.random.below(10) {
+            0..=4 => Call::Close(at),
+            5..=7 => Call::Public(at),
+            _ => Call::Abandon(at),
+        }
+    }
+
+    fn accesses(&mut self, tables: &[u32]) -> Call {
+        let at = self.open(tables);
+        match self.random.below(10) {
+            0..=2 => Call::Write(at, 1, self.random.number() as u32),
+            3..=5 => Call::Write(at, self.pointer(), self.random.number() as u32),
+            6..=7 => Call::Next(at, self.pointer()),
+            _ => Call::Prev(at, self.pointer()),
+        }
+    }
+
+    fn others(&mut self, tables: &[u32]) -> Call {
+        let at = self.open(tables);
+        match self.random.below(40) {
+            0..=7 => Call::Rename(at, self.name()),
+            8..=11 => Call::Reset(at),
+            12..=18 => Call::Pointer(at, self.pointer()),
+            19..=20 => Call::Delete(at, self.random.mostly_below(8)),
+            21..=23 => Call::Species(at),
+            24..=26 => Call::Claim(at),
+            27..=28 => Call::Permit(at),
+            29..=30 => Call::Begin(at),
+            31..=32 => Call::End(at),
+            33..=34 => Call::Symbol(at, self.random.mostly_below(13)),
+            35..=37 => Call::Value(at, self.random.mostly_below(8)),
+            _ => Call::Free(at.0),
+        }
+    }
+}

@@ -1,0 +1,55 @@
+//! Damaged cells: what is lent has a cell or two changed, a row twice, or another length.
+use crate::calls::Lent;
+use crate::random::Random;
+use crate::twin;
+
+const OPENINGS: usize = 3201;
+
+/// Tables that are mostly unsound.
+pub fn tables(random: &mut Random, lent: &mut Lent) {
+    match random.below(16) {
+        0 => lent.tables.truncate(random.below(twin::TABLES as u32) as usize),
+        1 => lent.tables.push(0),
+        2 => lent.store.truncate(random.below(200) as usize),
+        3 => lent.store.truncate(64 * lent.tables[0] as usize - 1),
+        4 => copy_row(random, &mut lent.tables[1..OPENINGS], 50),
+        5..=7 => copy_row(random, &mut lent.tables[OPENINGS..], 56),
+        8..=11 => cells(random, &mut lent.tables),
+        _ => {
+            let row = OPENINGS + 56 * random.below(32) as usize;
+            cells(random, &mut lent.tables[row..row + 24]);
+        }
+    }
+}
+
+/// A record to another place, or an opening to another entry.
+fn copy_row(random: &mut Random, rows: &mut [u32], length: usize) {
+    let number = (rows.len() / length) as u32;
+    let (from, to) = (random.below(number) as usize, random.below(number) as usize);
+    rows.copy_within(from * length..(from + 1) * length, to * length);
+}
+
+/// One cell or two become another's number, their neighbour number, or any.
+fn cells(random: &mut Random, cells: &mut [u32]) {
+    for _ in 0..1 + random.below(2) {
+        let (cell, other) = (random.below(cells.len() as u32) as usize, random.below(cells.len() as u32) as usize);
+        cells[cell] = match random.below(3) {
+            0 => cells[other],
+            1 => cells[cell] ^ 1,
+            _ => random.cell(),
+        };
+    }
+}
+
+/// An image with one bit or two turned over, one third of them in cell 0, or of another length.
+pub fn image(random: &mut Random, image: &mut Vec<u32>) {
+    for _ in 0..1 + random.below(2) {
+        let cell = if random.one_in(3) { 0 } else { random.below(image.len() as u32) as usize };
+        image[cell] ^= 1 << random.below(32);
+    }
+    match random.below(8) {
+        0 => image.truncate(random.below(image.len() as u32) as usize),
+        1 => image.push(0),
+        _ => {}
+    }
+}

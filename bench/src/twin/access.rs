@@ -1,0 +1,58 @@
+//! Next and prev.
+use super::layout::{self, opening, Opening};
+use super::openings::{drop_first, drop_last, value};
+use super::placing::{element, stretch};
+use super::{gate, Answer, Refusal};
+
+/// The element at a position of the file.
+fn delivered(store: &[u32], cells: &Opening, position: u32) -> u32 {
+    let species = cells[opening::SPECIES];
+    let place = stretch(species, position) - stretch(species, cells[opening::BEGIN]);
+    element(store, species, cells[opening::SEGMENTS][place as usize], position)
+}
+
+/// "Next: v < b is 6, v >= e is 7. Delivers position v, v grows. Through 0 the element leaves the file."
+pub fn next(store: &[u32], tables: &mut [u32], user: u32, entry: u32, pointer: u32) -> Answer {
+    let at = gate::open_entry(store, tables, user, entry)?;
+    let cells = layout::opening_mut(tables, at);
+    let value = value(cells, pointer)?;
+    if pointer == 0 && cells[opening::PERMIT] == 0 {
+        return Err(Refusal::Permit);
+    }
+    if value < cells[opening::BEGIN] {
+        return Err(Refusal::Below);
+    }
+    if value >= cells[opening::END] {
+        return Err(Refusal::Beyond);
+    }
+    let element = delivered(store, cells, value);
+    if pointer == 0 {
+        drop_first(cells);
+    } else {
+        cells[opening::POINTERS + pointer as usize] = value + 1;
+    }
+    Ok(element)
+}
+
+/// "Prev: v <= b is 6, v > e is 7. v falls by 1, delivers that position. Through 1 the element leaves the file."
+pub fn prev(store: &[u32], tables: &mut [u32], user: u32, entry: u32, pointer: u32) -> Answer {
+    let at = gate::open_entry(store, tables, user, entry)?;
+    let cells = layout::opening_mut(tables, at);
+    let value = value(cells, pointer)?;
+    if pointer == 1 && cells[opening::PERMIT] == 0 {
+        return Err(Refusal::Permit);
+    }
+    if value <= cells[opening::BEGIN] {
+        return Err(Refusal::Below);
+    }
+    if value > cells[opening::END] {
+        return Err(Refusal::Beyond);
+    }
+    let element = delivered(store, cells, value - 1);
+    if pointer == 1 {
+        drop_last(cells);
+    } else {
+        cells[opening::POINTERS + pointer as usize] = value - 1;
+    }
+    Ok(element)
+}
