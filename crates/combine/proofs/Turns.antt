@@ -6,6 +6,8 @@ use mathlib.Core.List.{List, [], _∷_, _++_}
 use native.Mathlib.Numerals.{add-one}
 use native.Mathlib.Omega.{arith}
 use lib.Dec.{eqb, eqb·suc-zero}
+use lib.Bits.{bitOr, or-zero-l, or-add-and, and-le-r}
+use borrow.Author.Tests.{ne-eqb}
 use lib.ListN.{length, getD, take, set}
 use lib.Seq.{take-suc, take-suc-set, take-all}
 use Rattle.combine.specs.Below.{allBelow, all-suc, failed}
@@ -37,3 +39,12 @@ failed-none false = refl
 pub sum-turn : (f : ℕ → Bool) (k sum v : ℕ) → v ≡ failed (f k) → eqb sum 0 ≡ allBelow k f → eqb (sum + v) 0 ≡ allBelow (k + 1) f
 sum-turn f k sum v e h =
     sym (sum-zero sum v) ∙ (λ j. h j && (ap (λ (n : ℕ). eqb n 0) e ∙ failed-none (f k)) j) ∙ sym (all-suc f k)
+
+-- bits gathered are zero where both numbers are
+or-none : (a b : ℕ) → (eqb a 0 && eqb b 0) ≡ eqb (bitOr a b) 0
+or-none zero b = ap (λ (n : ℕ). eqb n 0) (sym (or-zero-l b))
+or-none (suc a) b = rw (eqb·suc-zero a) (sym (ne-eqb (bitOr (suc a) b) 0 (λ e. let s = or-add-and (suc a) b in let l = and-le-r (suc a) b in omega arith)))
+
+pub gather-turn : (cells : List ℕ) (k bits : ℕ) → eqb bits 0 ≡ allBelow k (λ j. eqb (getD cells j 0) 0) → eqb (bitOr bits (getD cells k 0)) 0 ≡ allBelow (k + 1) (λ j. eqb (getD cells j 0) 0)
+gather-turn cells k bits h =
+    sym (or-none bits (getD cells k 0)) ∙ (λ j. h j && eqb (getD cells k 0) 0) ∙ sym (all-suc (λ j. eqb (getD cells j 0) 0) k)

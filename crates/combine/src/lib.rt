@@ -6,37 +6,17 @@ ghost use lib.Dec.{eqb, ltb};
 ghost use Rattle.combine.specs.Below.{allBelow, failed};
 ghost use Rattle.combine.specs.Lists.{same};
 
-// How many tests a cell fails, 0 or 1: a sum of these has no early exit, so that the compiler makes a loop over cells wide.
-fn set(cell: u32) -> u32
-    ensures { λ r. ⌜ (r ≡ failed (eqb cell 0)) × (r ≤ 1) ⌝ }
-{
-    if cell == 0 {
-        return 0;
-    }
-    1
-}
-
-fn beyond(cell: u32, bound: u32) -> u32
-    ensures { λ r. ⌜ (r ≡ failed (ltb cell bound)) × (r ≤ 1) ⌝ }
-{
-    if cell < bound {
-        return 0;
-    }
-    1
-}
-
-// Whether all cells are zero.
+// Whether all cells are zero: their bits are gathered with no early exit, so that the compiler makes the loop wide.
 pub fn all_zero(cells: &[u32]) -> bool
-    requires { ⌜ length (now cells) ≤ 65536 ⌝ }
     ensures { λ r. ⌜ r ≡ allBelow (length (now (cells .entry))) (λ k. eqb (getD (now (cells .entry)) k 0) 0) ⌝ }
 {
-    let mut sum: u32 = 0;
+    let mut bits: u32 = 0;
     let mut i = 0;
     while i < cells.len() {
-        sum += set(cells[i]);
+        bits |= cells[i];
         i += 1;
     }
-    sum == 0
+    bits == 0
 }
 
 // Whether all cells are the number.
@@ -53,7 +33,17 @@ pub fn all_equal(cells: &[u32], number: u32) -> bool
     true
 }
 
-// Whether all cells are below the bound.
+// How many cells are at the bound or beyond, 0 or 1.
+fn beyond(cell: u32, bound: u32) -> u32
+    ensures { λ r. ⌜ (r ≡ failed (ltb cell bound)) × (r ≤ 1) ⌝ }
+{
+    if cell < bound {
+        return 0;
+    }
+    1
+}
+
+// Whether all cells are below the bound: those that are not are counted, with no early exit.
 pub fn all_below(cells: &[u32], bound: u32) -> bool
     requires { ⌜ length (now cells) ≤ 65536 ⌝ }
     ensures { λ r. ⌜ r ≡ allBelow (length (now (cells .entry))) (λ k. ltb (getD (now (cells .entry)) k 0) bound) ⌝ }
