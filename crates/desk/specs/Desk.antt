@@ -1,11 +1,12 @@
 -- Every line of a history: s, t and i are the cells of the buffers store, tables and the four images, l has the numbers of cells lent of
 -- each. Assumes nothing.
 use Prim.Native.Nat.{ℕ, _+_, _*_}
-use mathlib.Core.Bool.{cond}
+use mathlib.Core.Bool.{Bool, true, false, cond}
 use mathlib.Core.List.{List, [], _∷_, _++_}
 use lib.Dec.{leb, ltb, eqb}
 use lib.ListN.{length, getD, take, drop}
 use Rattle.cells.specs.Outcomes.{lent, saveOut, loadOut}
+use Rattle.performing.specs.declared.Reply.{Reply}
 use Rattle.performing.specs.declared.Reply.the-variants.{Bad, Nothing}
 use Rattle.performing.specs.Calls.{callIn}
 use Rattle.performing.specs.Told.{Told, told, toldOf, replyOf}
@@ -19,7 +20,7 @@ use Rattle.lines.specs.declared.Buffer.the-variants as buffer
 use Rattle.lines.specs.Spelling.{found, bufferWords, bufferNames}
 use Rattle.buffers.specs.declared.Answered.{Answered}
 use Rattle.buffers.specs.Numbers.{oneNumber, onOne}
-use Rattle.buffers.specs.Buffers.{answering, lentOf, Poked, poking, testOf}
+use Rattle.buffers.specs.Buffers.{answering, lentOf, testOf}
 
 -- ---- calls: "the first N cells of the buffer are lent", those after them stay
 
@@ -41,26 +42,36 @@ imageAt k n i = take n (drop (1024 * k) i)
 abbrev pub withImage : ℕ → ℕ → List ℕ → List ℕ → List ℕ
 withImage k n i cells = take (1024 * k) i ++ (cells ++ drop n (drop (1024 * k) i))
 
--- "save to, load from image buffer I (0 to 3)"
-unfoldable pub saveTo : List ℕ → ℕ → List ℕ → List ℕ → List ℕ → Poked
-saveTo l k s t i =
-    let n = lentOf l (2 + k) 1024 in
-    let o = saveOut (take (lentOf l 0 (length s)) s) (take (lentOf l 1 (length t)) t) (imageAt k n i) in
-    cond (ltb 3 k) (poking Bad i) (cond (eqb (length i) 4096) (poking (replyOf (o .answer)) (withImage k n i (o .after .image))) (poking Bad i))
+-- the reply, and the cells of tables and images
+pub record Imaged : Type 0 where
+  pub reply : Reply
+  pub tables : List ℕ
+  pub images : List ℕ
 
-unfoldable pub loadFrom : List ℕ → ℕ → List ℕ → List ℕ → List ℕ → Poked
-loadFrom l k s t i =
-    let n = lentOf l (2 + k) 1024 in
+unfoldable pub imaging : Reply → List ℕ → List ℕ → Imaged
+imaging r t i = record { reply = r; tables = t; images = i }
+
+-- "save to, load from image buffer I (0 to 3)", with ns, nt and n cells lent of store, tables and image k
+abbrev pub savedTo : ℕ → ℕ → ℕ → ℕ → List ℕ → List ℕ → List ℕ → Imaged
+savedTo ns nt n k s t i =
+    let o = saveOut (take ns s) (take nt t) (imageAt k n i) in
+    imaging (replyOf (o .answer)) t (withImage k n i (o .after .image))
+
+abbrev pub loadedFrom : ℕ → ℕ → ℕ → ℕ → List ℕ → List ℕ → List ℕ → Imaged
+loadedFrom ns nt n k s t i =
+    let o = loadOut (take ns s) (take nt t) (imageAt k n i) in
+    imaging (replyOf (o .answer)) (beforeRest nt t (o .after .tables)) i
+
+unfoldable pub imageCall : List ℕ → ℕ → Bool → List ℕ → List ℕ → List ℕ → Imaged
+imageCall l k saves s t i =
+    let ns = lentOf l 0 (length s) in
     let nt = lentOf l 1 (length t) in
-    let o = loadOut (take (lentOf l 0 (length s)) s) (take nt t) (imageAt k n i) in
-    cond (ltb 3 k) (poking Bad t) (cond (eqb (length i) 4096) (poking (replyOf (o .answer)) (beforeRest nt t (o .after .tables))) (poking Bad t))
+    let n = lentOf l (2 + k) 1024 in
+    cond (ltb 3 k) (imaging Bad t i) (cond (eqb (length i) 4096) (cond saves (savedTo ns nt n k s t i) (loadedFrom ns nt n k s t i)) (imaging Bad t i))
 
 -- a number that is no buffer's, or that is missing, is a bad line
-unfoldable pub saveLine : List ℕ → Number → List ℕ → List ℕ → List ℕ → Poked
-saveLine l found s t i = onOne (λ k. saveTo l k s t i) (poking Bad i) found
-
-unfoldable pub loadLine : List ℕ → Number → List ℕ → List ℕ → List ℕ → Poked
-loadLine l found s t i = onOne (λ k. loadFrom l k s t i) (poking Bad t) found
+unfoldable pub imageLine : List ℕ → Number → Bool → List ℕ → List ℕ → List ℕ → Imaged
+imageLine l found saves s t i = onOne (λ k. imageCall l k saves s t i) (imaging Bad t i) found
 
 -- ---- what is answered, and all cells afterwards
 
@@ -78,13 +89,13 @@ unfoldable pub callLine : List ℕ → List ℕ → ℕ → List ℕ → List �
 callLine l line at s t i =
     let w = part 0 at line in
     let found = oneNumber (numbersAt line at) in
-    let saved = saveLine l found s t i in
-    let loaded = loadLine l found s t i in
+    let saved = imageLine l found true s t i in
+    let loaded = imageLine l found false s t i in
     let called = lentCall l line s t in
     -- save
-    cond (sameb w (115 ∷ 97 ∷ 118 ∷ 101 ∷ [])) (out (answering (saved .reply) l) s t (saved .cells))
+    cond (sameb w (115 ∷ 97 ∷ 118 ∷ 101 ∷ [])) (out (answering (saved .reply) l) s (saved .tables) (saved .images))
     -- load
-    (cond (sameb w (108 ∷ 111 ∷ 97 ∷ 100 ∷ [])) (out (answering (loaded .reply) l) s (loaded .cells) i)
+    (cond (sameb w (108 ∷ 111 ∷ 97 ∷ 100 ∷ [])) (out (answering (loaded .reply) l) s (loaded .tables) (loaded .images))
     (out (answering (called .reply) l) (called .cells .store) (called .cells .tables) i))
 
 -- ---- "Lines that are no calls, for tests"

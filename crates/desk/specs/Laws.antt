@@ -1,6 +1,7 @@
 -- What the code uses of these meanings, where cells are lent from 0 on. Assumes nothing.
 use Prim.Native.Nat.{ℕ, _+_, _-_, _*_, _≤_, _<_}
 use mathlib.Core.Path.{_≡_, sym, ap, _∙_}
+use mathlib.Core.Bool.{Bool, true, false}
 use mathlib.Core.List.{List, _++_}
 use native.Mathlib.Nat.{sub-zero}
 use native.Mathlib.Omega.{arith}
@@ -14,8 +15,8 @@ use Rattle.performing.specs.declared.Reply.{Reply}
 use Rattle.performing.specs.declared.Reply.the-variants.{Bad}
 use Rattle.performing.specs.Calls.{callIn}
 use Rattle.performing.specs.Told.{Told, told, toldOf, replyOf}
-use Rattle.buffers.specs.Buffers.{lentOf, poking}
-use Rattle.desk.specs.Desk.{lentCall, saveTo, loadFrom}
+use Rattle.buffers.specs.Buffers.{lentOf}
+use Rattle.desk.specs.Desk.{lentCall, imaging, savedTo, loadedFrom, imageCall}
 
 -- ---- on what is lent of store and tables
 
@@ -39,51 +40,37 @@ module _ (l s t : List ℕ) (ns nt : ℕ) (es : ns ≡ lentOf l 0 (length s)) (e
     between : 1024 * k + n - 1024 * k ≡ lentOf l (2 + k) 1024
     between = let e : 1024 * k + n - 1024 * k ≡ n = omega arith in e ∙ en
 
-    pub saved-to : (a : Answer) (r : Reply) (img′ : List ℕ) → r ≡ replyOf (said a)
+    pub saved-to : (b : Bool) (a : Answer) (r : Reply) (img′ : List ℕ) → b ≡ true → r ≡ replyOf (said a)
         → outcomeOf (said a) (saved (take (ns - 0) s) (take (nt - 0) t) img′) ≡ saveOut (take (ns - 0) s) (take (nt - 0) t) (take (1024 * k + n - 1024 * k) (drop (1024 * k) i))
-        → poking r (take (1024 * k) i ++ (img′ ++ drop (1024 * k + n - 1024 * k) (drop (1024 * k) i))) ≡ saveTo l k s t i
-    unfolding saveTo
-    saved-to a r img′ p e =
-        ap (λ x. poking x (take (1024 * k) i ++ (img′ ++ drop (1024 * k + n - 1024 * k) (drop (1024 * k) i)))) p
-        ∙ ap (λ (o : Outcome Saved). poking (replyOf (o .answer)) (take (1024 * k) i ++ (o .after .image ++ drop (1024 * k + n - 1024 * k) (drop (1024 * k) i)))) e
-        ∙ (λ j.
-        let o = saveOut (take (from-zero j) s) (take (from-zero-2 j) t) (take (between j) (drop (1024 * k) i)) in
-        poking (replyOf (o .answer)) (take (1024 * k) i ++ (o .after .image ++ drop (between j) (drop (1024 * k) i))))
-        ∙ sym (simp (le-ltb 3 k lk, eq-eqb (length i) 4096 long))
+        → imaging r t (take (1024 * k) i ++ (img′ ++ drop (1024 * k + n - 1024 * k) (drop (1024 * k) i))) ≡ imageCall l k b s t i
+    unfolding imageCall
+    saved-to b a r img′ q p e =
+        ap (λ x. imaging x t (take (1024 * k) i ++ (img′ ++ drop (1024 * k + n - 1024 * k) (drop (1024 * k) i)))) p
+        ∙ ap (λ (o : Outcome Saved). imaging (replyOf (o .answer)) t (take (1024 * k) i ++ (o .after .image ++ drop (1024 * k + n - 1024 * k) (drop (1024 * k) i)))) e
+        ∙ (λ j. savedTo (from-zero j) (from-zero-2 j) (between j) k s t i)
+        ∙ sym (simp (le-ltb 3 k lk, eq-eqb (length i) 4096 long, q))
 
-    pub loaded-from : (a : Answer) (r : Reply) (t′ : List ℕ) → r ≡ replyOf (said a)
+    pub loaded-from : (b : Bool) (a : Answer) (r : Reply) (t′ : List ℕ) → b ≡ false → r ≡ replyOf (said a)
         → outcomeOf (said a) (lent (take (ns - 0) s) t′) ≡ loadOut (take (ns - 0) s) (take (nt - 0) t) (take (1024 * k + n - 1024 * k) (drop (1024 * k) i))
-        → poking r (t′ ++ drop (nt - 0) t) ≡ loadFrom l k s t i
-    unfolding loadFrom
-    loaded-from a r t′ p e =
-        ap (λ x. poking x (t′ ++ drop (nt - 0) t)) p
-        ∙ ap (λ (o : Outcome Lent). poking (replyOf (o .answer)) (o .after .tables ++ drop (nt - 0) t)) e
-        ∙ (λ j.
-        let o = loadOut (take (from-zero j) s) (take (from-zero-2 j) t) (take (between j) (drop (1024 * k) i)) in
-        poking (replyOf (o .answer)) (o .after .tables ++ drop (from-zero-2 j) t))
-        ∙ sym (simp (le-ltb 3 k lk, eq-eqb (length i) 4096 long))
+        → imaging r (t′ ++ drop (nt - 0) t) i ≡ imageCall l k b s t i
+    unfolding imageCall
+    loaded-from b a r t′ q p e =
+        ap (λ x. imaging x (t′ ++ drop (nt - 0) t) i) p
+        ∙ ap (λ (o : Outcome Lent). imaging (replyOf (o .answer)) (o .after .tables ++ drop (nt - 0) t) i) e
+        ∙ (λ j. loadedFrom (from-zero j) (from-zero-2 j) (between j) k s t i)
+        ∙ sym (simp (le-ltb 3 k lk, eq-eqb (length i) 4096 long, q))
 
 -- ---- an image buffer that is not there
 
-module _ (l : List ℕ) (k : ℕ) (s t i : List ℕ) where
-  pub saved-nowhere : 3 < k → poking Bad i ≡ saveTo l k s t i
-  unfolding saveTo
-  saved-nowhere h = simp (lt-ltb 3 k h)
+module _ (l : List ℕ) (k : ℕ) (b : Bool) (s t i : List ℕ) where
+  pub no-image : 3 < k → imaging Bad t i ≡ imageCall l k b s t i
+  unfolding imageCall
+  no-image h = simp (lt-ltb 3 k h)
 
-  pub saved-no-images : k ≤ 3 → (length i ≡ 4096 → ⊥) → poking Bad i ≡ saveTo l k s t i
-  unfolding saveTo
-  saved-no-images h n = simp (le-ltb 3 k h, ne-eqb (length i) 4096 n)
-
-  pub loaded-nowhere : 3 < k → poking Bad t ≡ loadFrom l k s t i
-  unfolding loadFrom
-  loaded-nowhere h = simp (lt-ltb 3 k h)
-
-  pub loaded-no-images : k ≤ 3 → (length i ≡ 4096 → ⊥) → poking Bad t ≡ loadFrom l k s t i
-  unfolding loadFrom
-  loaded-no-images h n = simp (le-ltb 3 k h, ne-eqb (length i) 4096 n)
+  pub no-images : k ≤ 3 → (length i ≡ 4096 → ⊥) → imaging Bad t i ≡ imageCall l k b s t i
+  unfolding imageCall
+  no-images h n = simp (le-ltb 3 k h, ne-eqb (length i) 4096 n)
 
 pub ruleset lent-calls = (call-lent)
 
-pub ruleset saves = (saved-nowhere, saved-no-images, saved-to)
-
-pub ruleset loads = (loaded-nowhere, loaded-no-images, loaded-from)
+pub ruleset image-calls = (no-image, no-images, saved-to, loaded-from)

@@ -21,45 +21,37 @@ use Rattle.performing.specs.declared.Reply.the-variants.{Bad, Nothing}
 use Rattle.performing.specs.Told.{Told, told}
 use Rattle.buffers.specs.declared.Answered.{Answered}
 use Rattle.buffers.specs.Numbers.{oneNumber, onOne}
-use Rattle.buffers.specs.Buffers.{answering, Poked, poking, Tested, testing, testOf}
-use Rattle.desk.specs.Desk.{lentCall, saveTo, loadFrom, saveLine, loadLine, Out, out, callLine, onBuffer, testLine, lineFrom, spokenOut, lineOut}
+use Rattle.buffers.specs.Buffers.{answering, Tested, testing, testOf}
+use Rattle.desk.specs.Desk.{lentCall, Imaged, imaging, imageCall, imageLine, Out, out, callLine, onBuffer, testLine, lineFrom, spokenOut, lineOut}
 
 module _ (l s t i : List ℕ) where
   -- ---- save and load
 
-  module _ (found : Number) where
-    pub save-bad : found ≡ number.Bad → poking Bad i ≡ saveLine l found s t i
-    unfolding saveLine
-    save-bad q = sym (ap (onOne (λ k. saveTo l k s t i) (poking Bad i)) q)
+  module _ (found : Number) (b : Bool) where
+    pub image-bad : found ≡ number.Bad → imaging Bad t i ≡ imageLine l found b s t i
+    unfolding imageLine
+    image-bad q = sym (ap (onOne (λ k. imageCall l k b s t i) (imaging Bad t i)) q)
 
-    pub save-one : (k : ℕ) (p : Poked) → found ≡ number.Is k → p ≡ saveTo l k s t i → p ≡ saveLine l found s t i
-    unfolding saveLine
-    save-one k p q r = r ∙ sym (ap (onOne (λ k. saveTo l k s t i) (poking Bad i)) q)
-
-    pub load-bad : found ≡ number.Bad → poking Bad t ≡ loadLine l found s t i
-    unfolding loadLine
-    load-bad q = sym (ap (onOne (λ k. loadFrom l k s t i) (poking Bad t)) q)
-
-    pub load-one : (k : ℕ) (p : Poked) → found ≡ number.Is k → p ≡ loadFrom l k s t i → p ≡ loadLine l found s t i
-    unfolding loadLine
-    load-one k p q r = r ∙ sym (ap (onOne (λ k. loadFrom l k s t i) (poking Bad t)) q)
+    pub image-one : (k : ℕ) (y : Imaged) → found ≡ number.Is k → y ≡ imageCall l k b s t i → y ≡ imageLine l found b s t i
+    unfolding imageLine
+    image-one k y q r = r ∙ sym (ap (onOne (λ k. imageCall l k b s t i) (imaging Bad t i)) q)
 
   -- ---- a call
 
   module _ (line : List ℕ) (at : ℕ) where
-    pub saves-line : (b : Bool) (ns : Numbers) (x : Number) (r : Reply) (i′ : List ℕ) → b ≡ sameb (part 0 at line) (115 ∷ 97 ∷ 118 ∷ 101 ∷ []) → b ≡ true → ns ≡ numbersAt line at
-        → x ≡ oneNumber ns → poking r i′ ≡ saveLine l x s t i → out (answering r l) s t i′ ≡ callLine l line at s t i
-    unfolding callLine
-    saves-line b ns x r i′ e q m f p =
-        ap (λ (y : Poked). out (answering (y .reply) l) s t (y .cells)) (p ∙ ap (λ z. saveLine l z s t i) (f ∙ ap oneNumber m))
+    pub saves-line : (b : Bool) (ns : Numbers) (x : Number) (r : Reply) (t′ i′ : List ℕ) → b ≡ sameb (part 0 at line) (115 ∷ 97 ∷ 118 ∷ 101 ∷ []) → b ≡ true
+        → ns ≡ numbersAt line at → x ≡ oneNumber ns → imaging r t′ i′ ≡ imageLine l x true s t i → out (answering r l) s t′ i′ ≡ callLine l line at s t i
+    unfolding callLine imaging
+    saves-line b ns x r t′ i′ e q m f p =
+        ap (λ (y : Imaged). out (answering (y .reply) l) s (y .tables) (y .images)) (p ∙ ap (λ z. imageLine l z true s t i) (f ∙ ap oneNumber m))
         ∙ sym (rw (sym e ∙ q) refl)
 
     module _ (a : Bool) (not-save : a ≡ sameb (part 0 at line) (115 ∷ 97 ∷ 118 ∷ 101 ∷ [])) (na : a ≡ false) where
-      pub loads-line : (b : Bool) (ns : Numbers) (x : Number) (r : Reply) (t′ : List ℕ) → b ≡ sameb (part 0 at line) (108 ∷ 111 ∷ 97 ∷ 100 ∷ []) → b ≡ true → ns ≡ numbersAt line at
-          → x ≡ oneNumber ns → poking r t′ ≡ loadLine l x s t i → out (answering r l) s t′ i ≡ callLine l line at s t i
-      unfolding callLine
-      loads-line b ns x r t′ e q m f p =
-          ap (λ (y : Poked). out (answering (y .reply) l) s (y .cells) i) (p ∙ ap (λ z. loadLine l z s t i) (f ∙ ap oneNumber m))
+      pub loads-line : (b : Bool) (ns : Numbers) (x : Number) (r : Reply) (t′ i′ : List ℕ) → b ≡ sameb (part 0 at line) (108 ∷ 111 ∷ 97 ∷ 100 ∷ []) → b ≡ true
+          → ns ≡ numbersAt line at → x ≡ oneNumber ns → imaging r t′ i′ ≡ imageLine l x false s t i → out (answering r l) s t′ i′ ≡ callLine l line at s t i
+      unfolding callLine imaging
+      loads-line b ns x r t′ i′ e q m f p =
+          ap (λ (y : Imaged). out (answering (y .reply) l) s (y .tables) (y .images)) (p ∙ ap (λ z. imageLine l z false s t i) (f ∙ ap oneNumber m))
           ∙ sym (rw (sym not-save ∙ na, sym e ∙ q) refl)
 
       pub calls-line : (b : Bool) (r : Reply) (s′ t′ : List ℕ) → b ≡ sameb (part 0 at line) (108 ∷ 111 ∷ 97 ∷ 100 ∷ []) → b ≡ false
@@ -138,7 +130,7 @@ module _ (l s t i : List ℕ) where
     unfolding lineOut
     spoken-line y n m r = r ∙ sym (simp (ne-eqb (length line) 0 n, ne-eqb (getD line 0 0) 35 m))
 
-pub ruleset image-lines = (save-bad, save-one, load-bad, load-one)
+pub ruleset image-lines = (image-bad, image-one)
 
 pub ruleset call-lines = (saves-line, loads-line, calls-line)
 

@@ -10,8 +10,8 @@ ghost use Prim.Native.Nat.{_≤_};
 ghost use lib.ListN.{length};
 ghost use Rattle.performing.specs.Told.{told};
 ghost use Rattle.cells.specs.Outcomes.{lent};
-ghost use Rattle.buffers.specs.Buffers.{answering, poking};
-ghost use Rattle.desk.specs.Desk.{lentCall, saveTo, loadFrom, saveLine, loadLine, out, callLine, onBuffer, testLine, spokenOut, lineOut};
+ghost use Rattle.buffers.specs.Buffers.{answering};
+ghost use Rattle.desk.specs.Desk.{lentCall, imaging, imageCall, imageLine, out, callLine, onBuffer, testLine, spokenOut, lineOut};
 
 // A call on what is lent of store and tables.
 fn call(store: &mut [u32], tables: &mut [u32], lengths: [u32; 6], line: &[u8]) -> Reply
@@ -22,9 +22,16 @@ fn call(store: &mut [u32], tables: &mut [u32], lengths: [u32; 6], line: &[u8]) -
     performing::perform(&mut store[0..s], &mut tables[0..t], line)
 }
 
-// Save to image buffer k.
-fn save(store: &[u32], tables: &[u32], images: &mut [u32], lengths: [u32; 6], k: u32) -> Reply
-    ensures { λ r. ⌜ poking r (now (images .exit)) ≡ saveTo lengths k (now (store .entry)) (now (tables .entry)) (now (images .entry)) ⌝ }
+// Save to image buffer k, or load from it.
+fn image_call(
+    store: &[u32],
+    tables: &mut [u32],
+    images: &mut [u32],
+    lengths: [u32; 6],
+    k: u32,
+    saves: bool,
+) -> Reply
+    ensures { λ r. ⌜ imaging r (now (tables .exit)) (now (images .exit)) ≡ imageCall lengths k saves (now (store .entry)) (now (tables .entry)) (now (images .entry)) ⌝ }
 {
     if 3 < k {
         return Reply::Bad;
@@ -38,54 +45,28 @@ fn save(store: &[u32], tables: &[u32], images: &mut [u32], lengths: [u32; 6], k:
     let n = buffers::lent(lengths, 2 + at, 1024);
     let from = 1024 * at;
     let to = from + n;
-    performing::replied(saving::save(&store[0..s], &tables[0..t], &mut images[from..to]))
-}
-
-// Load from it.
-fn load(store: &[u32], tables: &mut [u32], images: &[u32], lengths: [u32; 6], k: u32) -> Reply
-    ensures { λ r. ⌜ poking r (now (tables .exit)) ≡ loadFrom lengths k (now (store .entry)) (now (tables .entry)) (now (images .entry)) ⌝ }
-{
-    if 3 < k {
-        return Reply::Bad;
+    if saves {
+        return performing::replied(saving::save(
+            &store[0..s],
+            &tables[0..t],
+            &mut images[from..to],
+        ));
     }
-    if images.len() != 4096 {
-        return Reply::Bad;
-    }
-    let at = k as usize;
-    let s = buffers::lent(lengths, 0, store.len());
-    let t = buffers::lent(lengths, 1, tables.len());
-    let n = buffers::lent(lengths, 2 + at, 1024);
-    let from = 1024 * at;
-    let to = from + n;
     performing::replied(loading::load(&store[0..s], &mut tables[0..t], &images[from..to]))
 }
 
-fn save_line(
+fn image_line(
     store: &[u32],
-    tables: &[u32],
+    tables: &mut [u32],
     images: &mut [u32],
     lengths: [u32; 6],
     found: Number,
+    saves: bool,
 ) -> Reply
-    ensures { λ r. ⌜ poking r (now (images .exit)) ≡ saveLine lengths found (now (store .entry)) (now (tables .entry)) (now (images .entry)) ⌝ }
+    ensures { λ r. ⌜ imaging r (now (tables .exit)) (now (images .exit)) ≡ imageLine lengths found saves (now (store .entry)) (now (tables .entry)) (now (images .entry)) ⌝ }
 {
     match found {
-        Number::Is(k) => save(store, tables, images, lengths, k),
-        Number::Bad => Reply::Bad,
-    }
-}
-
-fn load_line(
-    store: &[u32],
-    tables: &mut [u32],
-    images: &[u32],
-    lengths: [u32; 6],
-    found: Number,
-) -> Reply
-    ensures { λ r. ⌜ poking r (now (tables .exit)) ≡ loadLine lengths found (now (store .entry)) (now (tables .entry)) (now (images .entry)) ⌝ }
-{
-    match found {
-        Number::Is(k) => load(store, tables, images, lengths, k),
+        Number::Is(k) => image_call(store, tables, images, lengths, k, saves),
         Number::Bad => Reply::Bad,
     }
 }
@@ -104,11 +85,11 @@ fn call_line(
 {
     if words::same(&line[0..at], b"save") {
         let found = buffers::one_number(words::numbers_at(line, at));
-        return save_line(store, tables, images, lengths, found);
+        return image_line(store, tables, images, lengths, found, true);
     }
     if words::same(&line[0..at], b"load") {
         let found = buffers::one_number(words::numbers_at(line, at));
-        return load_line(store, tables, images, lengths, found);
+        return image_line(store, tables, images, lengths, found, false);
     }
     call(store, tables, lengths, line)
 }

@@ -24,8 +24,8 @@ numbers-at-requires c κs = search needs
 one-number-requires : tie.Need-one-number-requires
 one-number-requires c κs = search needs
 
-save-line-requires : tie.Need-save-line-requires
-save-line-requires c κs = search needs
+image-line-requires : tie.Need-image-line-requires
+image-line-requires c κs = search needs
 
 same-length : tie.Need-same-length
 same-length c = search needs
@@ -60,8 +60,8 @@ numbers-at-requires-2 c κs = search needs
 one-number-requires-2 : tie.Need-one-number-requires-2
 one-number-requires-2 c κs = search needs
 
-load-line-requires : tie.Need-load-line-requires
-load-line-requires c κs = search needs
+image-line-requires-2 : tie.Need-image-line-requires-2
+image-line-requires-2 c κs = search needs
 
 same-length-4 : tie.Need-same-length-4
 same-length-4 c = search needs
@@ -98,7 +98,7 @@ call-line-spec =
     same-requires
     numbers-at-requires
     one-number-requires
-    save-line-requires
+    image-line-requires
     same-length
     same-length-2
     same-length-3
@@ -110,7 +110,7 @@ call-line-spec =
     same-requires-2
     numbers-at-requires-2
     one-number-requires-2
-    load-line-requires
+    image-line-requires-2
     same-length-4
     same-length-5
     same-length-6
