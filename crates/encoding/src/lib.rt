@@ -15,7 +15,7 @@ fn put_head(segments: u32, out: &mut [u32])
     ensures { λ _. ⌜ now (out .exit) ≡ headImage form1 segments ⌝ }
 {
     let values = [1, segments, 0];
-    rows::put_all(out, 0, &widths::HEAD, &values);
+    rows::pack(out, &widths::HEAD, &values);
 }
 
 // Form, number of segments and zero bits of the image's first cell.
@@ -24,24 +24,50 @@ pub fn take_head(cells: &[u32]) -> [u32; 3]
     ensures { λ r. ⌜ r ≡ unpacked headWidths (rowOf (now (cells .entry))) ⌝ }
 {
     let mut values = [0u32; 3];
-    rows::take_all(cells, 0, &widths::HEAD, &mut values);
+    rows::unpack(cells, &widths::HEAD, &mut values);
     values
 }
 
-// A record's 50 cells of the tables into its 14 of the image.
+// A record's 50 cells of the tables into its 14 of the image: the fields fill four of them, the segment numbers ten.
+fn pack_record(values: &[u32], out: &mut [u32])
+    requires { ⌜ (length (now values) ≡ 50) × (length (now out) ≡ 14) ⌝ }
+    ensures { λ _. ⌜ now (out .exit) ≡ cellsOf 14 (packed recordWidths (now (values .entry))) ⌝ }
+{
+    rows::pack(&mut out[0..4], &widths::FIELDS, &values[0..18]);
+    rows::pack(&mut out[4..14], &widths::NUMBERS, &values[18..50]);
+}
+
+// The same for any record: "an unused record is all zero", and so are its cells of the image.
 fn put_record(values: &[u32], out: &mut [u32])
     requires { ⌜ (length (now values) ≡ 50) × (length (now out) ≡ 14) ⌝ }
     ensures { λ _. ⌜ now (out .exit) ≡ cellsOf 14 (packed recordWidths (now (values .entry))) ⌝ }
 {
-    rows::put_all(out, 0, &widths::RECORD, values);
+    if combine::all_zero(values) {
+        combine::fill_cells(out, 0);
+        return;
+    }
+    pack_record(values, out);
 }
 
 // The 50 cells of the record that 14 cells of the image say.
+fn unpack_record(cells: &[u32], out: &mut [u32])
+    requires { ⌜ (length (now cells) ≡ 14) × (length (now out) ≡ 50) ⌝ }
+    ensures { λ _. ⌜ now (out .exit) ≡ unpacked recordWidths (rowOf (now (cells .entry))) ⌝ }
+{
+    rows::unpack(&cells[0..4], &widths::FIELDS, &mut out[0..18]);
+    rows::unpack(&cells[4..14], &widths::NUMBERS, &mut out[18..50]);
+}
+
+// The same for any record: where the cells are all zero, the record is unused.
 fn take_record(cells: &[u32], out: &mut [u32])
     requires { ⌜ (length (now cells) ≡ 14) × (length (now out) ≡ 50) ⌝ }
     ensures { λ _. ⌜ now (out .exit) ≡ unpacked recordWidths (rowOf (now (cells .entry))) ⌝ }
 {
-    rows::take_all(cells, 0, &widths::RECORD, out);
+    if combine::all_zero(cells) {
+        combine::fill_cells(out, 0);
+        return;
+    }
+    unpack_record(cells, out);
 }
 
 // "Saving writes the records only, whatever is open."

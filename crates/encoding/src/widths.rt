@@ -3,8 +3,8 @@
 // "Cell 0: form 8 bits (1), number of segments 11 bits, 13 zero bits."
 pub const HEAD: [u32; 3] = [8, 11, 13];
 
-// "used 1, name 12 x 6, owner 3, private 1, species 3, begin 24, end 24, then 32 segment numbers of 10 bits by rising stretch."
-pub const RECORD: [u32; 50] = [
+// "used 1, name 12 x 6, owner 3, private 1, species 3, begin 24, end 24": four cells.
+pub const FIELDS: [u32; 18] = [
     1, // used
     6, // name
     6,
@@ -23,36 +23,7 @@ pub const RECORD: [u32; 50] = [
     3, // species
     24, // begin
     24, // end
-    10, // segment numbers
-    10,
-    10,
-    10,
-    10,
-    10,
-    10,
-    10,
-    10,
-    10,
-    10,
-    10,
-    10,
-    10,
-    10,
-    10,
-    10,
-    10,
-    10,
-    10,
-    10,
-    10,
-    10,
-    10,
-    10,
-    10,
-    10,
-    10,
-    10,
-    10,
-    10,
-    10,
 ];
+
+// "then 32 segment numbers of 10 bits by rising stretch": ten cells.
+pub const NUMBERS: [u32; 32] = [10; 32];

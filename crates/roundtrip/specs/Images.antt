@@ -14,7 +14,7 @@ use Rattle.packing.specs.Packing.{packed, unpacked, rowOf, cellsOf}
 use Rattle.placing.specs.Sizes.{places, tablesLength}
 use Rattle.tables.specs.Layout.{recordBase, segmentsIn}
 use Rattle.image.specs.Image.{form1, imageLength, headWidths, recordWidths, headImage, recordImage, imageOf, headField, recordFrom, tablesFrom}
-use Rattle.rows.specs.Cells.{Cells}
+use Rattle.rows.specs.Cells.{Cells, part-cells}
 use Rattle.rows.specs.Pack.{unpacked-length}
 use Rattle.rows.specs.Whole.{packed-back, cells-back}
 use Rattle.encoding.specs.Widths.{head-sum, record-sum, head-many, record-many}
@@ -53,16 +53,6 @@ first-more : (t : List ℕ) (n : ℕ) → 1 ≤ length t → getD t 0 0 ∷ part
 unfolding part
 first-more [] n h = absurd (let z : ⊥ = omega arith in z)
 first-more (x ∷ t) n h = refl
-
-part-cells : (l : List ℕ) (a n : ℕ) → Cells l → Cells (part l a n)
-unfolding part
-part-cells l a n h k = ⊎-elim outside inside (le-or-lt n k)
-  where
-    inside : k < n → getD (take n (drop a l)) k 0 < 2 ^ 32
-    inside q = rw (getD-take n (drop a l) k 0 q, getD-drop a l k 0) (h (a + k))
-
-    outside : n ≤ k → getD (take n (drop a l)) k 0 < 2 ^ 32
-    outside p = rw (List·getD-eq-default (take n (drop a l)) 0 {n = k} (omega (arith, length-take n (drop a l)))) (lit< tt)
 
 -- ---- the image of tables
 

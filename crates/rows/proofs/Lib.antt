@@ -1,4 +1,4 @@
 -- What the code of `rows` is. Assumes nothing.
-pub mod Fields
-pub mod Ways
 pub mod Turns
+pub mod Filled
+pub mod Handed

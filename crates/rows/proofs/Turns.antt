@@ -1,44 +1,80 @@
--- A turn of the loop that puts a list of fields, and of the one that takes it. Assumes nothing.
-use mathlib.Core.Path.{_≡_, sym, ap, _∙_}
-use mathlib.Core.List.{List, [], _∷_, _++_}
-use Prim.Native.Nat.{ℕ, suc, _+_, _-_, _*_, _≤_, _<_}
-use native.Mathlib.Numerals.{add-one}
+-- Bits that wait: numbers and cells that come below them, and what is cut off their top. Assumes nothing.
+use mathlib.Core.Path.{_≡_, sym, ap, subst, _∙_}
+use mathlib.Core.List.{List}
+use Prim.Native.Nat.{ℕ, _+_, _-_, _*_, _/_, _%_, _^_, _≤_, _<_}
+use native.Mathlib.Nat.{add-mul, mul-assoc, mod-lt, lt-of-lt-of-le}
 use native.Mathlib.Omega.{arith}
-use lib.ListN.{length, getD, take, drop, set}
-use lib.Seq.{take-suc, take-suc-set, take-all}
-use Rattle.packing.specs.Packing.{field, rowOf, sum, packed, unpacked}
-use Rattle.rows.specs.Row.{rowField, rowPut}
-use Rattle.rows.specs.Join.{field-in}
-use Rattle.rows.specs.Pack.{unpacked-length, unpacked-at}
-use Rattle.rows.specs.Longer.{sum-at, sum-suc, packed-suc}
-use Rattle.rows.proofs.Fields.{put-append}
+use lib.Arith.{digits-lt}
+use lib.ListN.{length, getD, take}
+use lib.Pow.{pow-add, pow-pos, pow-mono, shl-exact, shr-lt, split}
+use Rattle.packing.specs.Packing.{sum, packed}
+use Rattle.rows.specs.Waiting.{Narrow, Begun, Packs}
+use Rattle.rows.specs.Longer.{sum-fewer, sum-suc, packed-suc}
 
--- a turn of the loop that puts
-pub put-turn : (cs ds es ws xs : List ℕ) (at i : ℕ) → length xs ≡ length ws → i < length ws → at + sum ws ≤ 32 * length cs → length ds ≡ length cs
-    → rowOf ds ≡ rowPut cs at (sum (take i ws)) (packed (take i ws) (take i xs)) → rowOf es ≡ rowPut ds (at + sum (take i ws)) (getD ws i 0) (getD xs i 0)
-    → rowOf es ≡ rowPut cs at (sum (take (i + 1) ws)) (packed (take (i + 1) ws) (take (i + 1) xs))
-put-turn cs ds es ws xs at i e h l n r f =
-    f ∙ put-append cs ds at (sum (take i ws)) (getD ws i 0) (packed (take i ws) (take i xs)) (getD xs i 0) (omega (arith, sum-at ws i h)) n r
-    ∙ (λ j. rowPut cs at (sym (sum-suc ws i h) j) (sym (packed-suc ws xs i e h) j))
+pow-shift : (r k b : ℕ) → r * 2 ^ k * 2 ^ b ≡ r * 2 ^ (k + b)
+pow-shift r k b = mul-assoc r (2 ^ k) (2 ^ b) ∙ ap (λ (y : ℕ). r * y) (sym (pow-add 2 k b))
 
--- a number of the list is a field of the row
-field-at : (cs ws : List ℕ) (at i : ℕ) → i < length ws → at + sum ws ≤ 32 * length cs → rowField cs (at + sum (take i ws)) (getD ws i 0) ≡ getD (unpacked ws (rowField cs at (sum ws))) i 0
-unfolding rowField
-field-at cs ws at i h l =
-    let w : ℕ = getD ws i 0 in
-    let s : ℕ = sum (drop (suc i) ws) in
-    let e : 32 * length cs - (at + sum (take i ws) + w) ≡ (32 * length cs - (at + sum ws)) + s = omega (arith, sum-at ws i h) in
-    ap (λ (y : ℕ). field w y (rowOf cs)) e ∙ sym (field-in w s (sum ws) (32 * length cs - (at + sum ws)) (rowOf cs) (omega (arith, sum-at ws i h)))
-    ∙ sym (unpacked-at ws (rowField cs at (sum ws)) i h)
+-- ---- w digits x below the b digits v
 
--- a turn of the loop that takes
-pub take-turn : (cs ws ys : List ℕ) (at i v : ℕ) → i < length ws → at + sum ws ≤ 32 * length cs → length ys ≡ length ws → v ≡ rowField cs (at + sum (take i ws)) (getD ws i 0)
-    → take i ys ≡ take i (unpacked ws (rowField cs at (sum ws))) → take (i + 1) (set ys i v) ≡ take (i + 1) (unpacked ws (rowField cs at (sum ws)))
-take-turn cs ws ys at i v h l n e t =
-    let us : List ℕ = unpacked ws (rowField cs at (sum ws)) in
-    ap (λ (k : ℕ). take k (set ys i v)) (add-one i) ∙ take-suc-set ys i v (omega arith)
-    ∙ (λ j. t j ++ ((e ∙ field-at cs ws at i h l) j ∷ [])) ∙ sym (take-suc us i 0 (omega (arith, unpacked-length ws (rowField cs at (sum ws))))) ∙ ap (λ (k : ℕ). take k us) (sym (add-one i))
+module _ (v b w x : ℕ) (fits : v < 2 ^ b) (few : x < 2 ^ w) where
+  pub below-lt : v * 2 ^ w + x < 2 ^ (b + w)
+  below-lt = subst (λ (y : ℕ). v * 2 ^ w + x < y) (sym (pow-add 2 b w)) (digits-lt fits few)
 
-pub take-done : (cs ws ys : List ℕ) (at i : ℕ) → i ≡ length ws → length ys ≡ length ws → take i ys ≡ take i (unpacked ws (rowField cs at (sum ws))) → ys ≡ unpacked ws (rowField cs at (sum ws))
-take-done cs ws ys at i e n t =
-    sym (take-all i ys (omega arith)) ∙ t ∙ take-all i (unpacked ws (rowField cs at (sum ws))) (omega (arith, unpacked-length ws (rowField cs at (sum ws))))
+  pub below-row : (row : ℕ) → (row * 2 ^ b + v) * 2 ^ w + x ≡ row * 2 ^ (b + w) + (v * 2 ^ w + x)
+  below-row row = omega (arith, add-mul (row * 2 ^ b) v (2 ^ w), pow-shift row b w)
+
+  module _ (room : b + w ≤ 64) where
+    -- as the code has it
+    pub below-shl : (v * 2 ^ w) % 2 ^ 64 + x ≡ v * 2 ^ w + x
+    below-shl = ap (λ (y : ℕ). y + x) (shl-exact b w 64 fits room)
+
+    pub below-fits : (v * 2 ^ w) % 2 ^ 64 + x < 2 ^ 64
+    below-fits = subst (λ (y : ℕ). y < 2 ^ 64) (sym below-shl) (lt-of-lt-of-le below-lt (pow-mono room))
+
+-- ---- the top k of the k + b digits v
+
+module _ (v k b : ℕ) (fits : v < 2 ^ (k + b)) (room : k + b ≤ 64) where
+  pub top-lt : v / 2 ^ b < 2 ^ k
+  top-lt = shr-lt k b fits
+
+  -- as the code has it
+  shl-top : (v / 2 ^ b * 2 ^ b) % 2 ^ 64 ≡ v / 2 ^ b * 2 ^ b
+  shl-top = shl-exact k b 64 top-lt room
+
+  pub top-le : (v / 2 ^ b * 2 ^ b) % 2 ^ 64 ≤ v
+  top-le = omega (arith, shl-top, split v b)
+
+  pub rest-is : v - (v / 2 ^ b * 2 ^ b) % 2 ^ 64 ≡ v % 2 ^ b
+  rest-is = omega (arith, shl-top, split v b)
+
+  pub top-row : (row : ℕ) → row * 2 ^ (k + b) + v ≡ (row * 2 ^ k + v / 2 ^ b) * 2 ^ b + v % 2 ^ b
+  top-row row = omega (arith, add-mul (row * 2 ^ k) (v / 2 ^ b) (2 ^ b), pow-shift row k b, split v b)
+
+-- ---- a number more comes below the bits that wait
+
+module _ (ws xs : List ℕ) (narrow : Narrow ws) (long : length xs ≡ length ws) where
+  -- while the bits that wait fill no cell, and those to come would, there is a number more
+  pub more-left : (next₀ next bits₀ bits : ℕ) → next ≤ length ws → sum (take next ws) + bits₀ ≡ sum (take next₀ ws) + bits → 32 + sum (take next₀ ws) ≤ bits₀ + sum ws → bits < 32 → next < length ws
+  more-left next₀ next bits₀ bits l s m h = sum-fewer ws next l (omega arith)
+
+  module _ (number bits next : ℕ) (begun : Begun ws number bits next) (h : bits < 32) (l : next < length ws) (x : ℕ) (e : x ≡ getD xs next 0 % 2 ^ getD ws next 0) where
+    abbrev width : ℕ
+    width = getD ws next 0
+
+    room : bits + width ≤ 64
+    room = omega (arith, narrow next l .1)
+
+    few : x < 2 ^ width
+    few = subst (λ (y : ℕ). y < 2 ^ width) (sym e) (mod-lt (getD xs next 0) (pow-pos width))
+
+    pub gather-fits : (number * 2 ^ width) % 2 ^ 64 + x < 2 ^ 64
+    gather-fits = below-fits number bits width x (begun .2) few room
+
+    pub gather-begun : Begun ws ((number * 2 ^ width) % 2 ^ 64 + x) (bits + width) (next + 1)
+    gather-begun =
+        (omega arith, omega (arith, narrow next l .1), subst (λ (y : ℕ). y < 2 ^ (bits + width)) (sym (below-shl number bits width x (begun .2) few room)) (below-lt number bits width x (begun .2) few))
+
+    pub gather-packs : (row : ℕ) → Packs ws xs row number bits next → Packs ws xs row ((number * 2 ^ width) % 2 ^ 64 + x) (bits + width) (next + 1)
+    gather-packs row p =
+        packed-suc ws xs next long l ∙ (λ j. p j * 2 ^ width + sym e j) ∙ below-row number bits width x (begun .2) few row
+        ∙ ap (λ (y : ℕ). row * 2 ^ (bits + width) + y) (sym (below-shl number bits width x (begun .2) few room))

@@ -1,22 +1,25 @@
 -- A row of cells is the cells of its number, and a cell is a field of 32 digits. Assumes nothing.
 use mathlib.Core.Path.{_≡_, refl, sym, ap, _∙_, subst}
+use mathlib.Core.Logic.{⊎-elim}
 use mathlib.Core.List.{List, [], _∷_}
-use Prim.Native.Nat.{ℕ, zero, suc, _+_, _-_, _*_, _/_, _%_, _^_, _<_}
+use Prim.Native.Nat.{ℕ, zero, suc, _+_, _-_, _*_, _/_, _%_, _^_, _≤_, _<_}
 use native.Mathlib.Nat.{mod-eq-of-lt, mod-one, mul-suc, not-suc-le-zero, le-of-suc-le-suc}
 use native.Mathlib.Omega.{arith}
-use lib.ListN.{length, getD, set, length-set}
-use lib.Seq.{ext-getD}
-use lib.Dec.{lit≤}
+use lib.ListN.{length, getD, take, drop, set, length-take, List·getD-eq-default}
+use lib.Seq.{ext-getD, getD-take, getD-drop}
+use lib.Dec.{lit≤, lit<}
 use lib.Arith.{digits-lt}
 use lib.Pow.{pow-add, high, low, mod-pow-add}
-use Rattle.packing.specs.Packing.{field, putField, rowOf, cellsOf}
-use Rattle.packing.specs.Fields.{field-below, put-sum}
+use Rattle.combine.specs.Numbers.{le-or-lt}
+use Rattle.combine.specs.Lists.{part}
+use Rattle.packing.specs.Packing.{field, rowOf, cellsOf}
+use Rattle.packing.specs.Fields.{field-below}
 
 -- each is a number of 32 digits
 abbrev pub Cells : List ℕ → Type 0
 Cells cs = (i : ℕ) → getD cs i 0 < 2 ^ 32
 
-pow-cells : (n : ℕ) → 2 ^ 32 * 2 ^ (32 * n) ≡ 2 ^ (32 * suc n)
+pub pow-cells : (n : ℕ) → 2 ^ 32 * 2 ^ (32 * n) ≡ 2 ^ (32 * suc n)
 pow-cells n = sym (pow-add 2 32 (32 * n)) ∙ ap (λ (y : ℕ). 2 ^ y) (omega (arith, mul-suc 32 n))
 
 pub row-lt : (cs : List ℕ) → Cells cs → rowOf cs < 2 ^ (32 * length cs)
@@ -39,22 +42,18 @@ cell-field (c ∷ cs) (suc i) h l =
     ∙ field-below 32 (32 * (length cs - suc i)) (32 * length cs) (rowOf (c ∷ cs)) (rowOf cs) (omega arith) (low c (32 * length cs) b ∙ sym (mod-eq-of-lt b))
     ∙ cell-field cs i (λ j. h (suc j)) l′
 
+-- a part of a row
+pub part-cells : (l : List ℕ) (a n : ℕ) → Cells l → Cells (part l a n)
+unfolding part
+part-cells l a n h k = ⊎-elim outside inside (le-or-lt n k)
+  where
+    inside : k < n → getD (take n (drop a l)) k 0 < 2 ^ 32
+    inside q = rw (getD-take n (drop a l) k 0 q, getD-drop a l k 0) (h (a + k))
+
+    outside : n ≤ k → getD (take n (drop a l)) k 0 < 2 ^ 32
+    outside p = rw (List·getD-eq-default (take n (drop a l)) 0 {n = k} (omega (arith, length-take n (drop a l)))) (lit< tt)
+
 -- a cell that is replaced
-set-sum : (cs : List ℕ) (i v : ℕ) → i < length cs → rowOf (set cs i v) + getD cs i 0 * 2 ^ (32 * (length cs - suc i)) ≡ rowOf cs + v * 2 ^ (32 * (length cs - suc i))
-unfolding rowOf
-set-sum [] i v l = absurd (not-suc-le-zero l)
-set-sum (c ∷ cs) zero v l =
-    let e : 32 * (suc (length cs) - suc zero) ≡ 32 * length cs = omega arith in
-    omega (arith, ap (λ (y : ℕ). c * 2 ^ y) e, ap (λ (y : ℕ). v * 2 ^ y) e)
-set-sum (c ∷ cs) (suc i) v l =
-    let e : 32 * (suc (length cs) - suc (suc i)) ≡ 32 * (length cs - suc i) = omega arith in
-    omega (arith, ap (λ (y : ℕ). getD cs i 0 * 2 ^ y) e, ap (λ (y : ℕ). v * 2 ^ y) e, ap (λ (y : ℕ). c * 2 ^ (32 * y)) (length-set cs i v), set-sum cs i v (le-of-suc-le-suc l))
-
-pub row-set : (cs : List ℕ) (i v : ℕ) → Cells cs → v < 2 ^ 32 → i < length cs → rowOf (set cs i v) ≡ putField 32 (32 * (length cs - suc i)) (rowOf cs) v
-row-set cs i v h k l =
-    let m : ℕ = 32 * (length cs - suc i) in
-    omega (arith, set-sum cs i v l, put-sum 32 m (rowOf cs) v, ap (λ (y : ℕ). y * 2 ^ m) (cell-field cs i h l), ap (λ (y : ℕ). y * 2 ^ m) (mod-eq-of-lt k))
-
 pub set-cells : (cs : List ℕ) (i v : ℕ) → Cells cs → v < 2 ^ 32 → Cells (set cs i v)
 set-cells [] i v h k j = h j
 set-cells (c ∷ cs) zero v h k zero = k

@@ -1,14 +1,34 @@
--- Widths, and numbers packed in them, one more at a time. Assumes nothing.
+-- Cells, widths, and numbers packed in them, one more at a time. Assumes nothing.
 use mathlib.Core.Path.{_≡_, sym, ap, _∙_}
+use mathlib.Core.Logic.{⊎-elim}
 use mathlib.Core.List.{List, [], _∷_, _++_}
-use Prim.Native.Nat.{ℕ, zero, suc, _+_, _*_, _%_, _^_, _<_}
-use native.Mathlib.Nat.{suc-inj, add-mul, mul-assoc, suc-ne-zero, not-suc-le-zero, le-of-suc-le-suc}
+use Prim.Native.Nat.{ℕ, zero, suc, _+_, _*_, _%_, _^_, _≤_, _<_}
+use native.Mathlib.Nat.{suc-inj, add-mul, mul-assoc, mul-comm, suc-ne-zero, not-suc-le-zero, le-of-suc-le-suc, eq-or-lt-of-le}
 use native.Mathlib.Numerals.{add-one}
 use native.Mathlib.Omega.{arith}
-use lib.ListN.{length, getD, take, drop}
-use lib.Seq.{take-suc, length-take-le}
+use lib.ListN.{length, getD, take, drop, length-append}
+use lib.Seq.{take-suc, take-all, length-take-le}
 use lib.Pow.{pow-add}
-use Rattle.packing.specs.Packing.{sum, packed}
+use Rattle.packing.specs.Packing.{rowOf, sum, packed}
+use Rattle.rows.specs.Cells.{pow-cells}
+use Rattle.rows.specs.Waiting.{Narrow}
+
+-- ---- cells
+
+row-snoc : (cs : List ℕ) (c : ℕ) → rowOf (cs ++ (c ∷ [])) ≡ rowOf cs * 2 ^ 32 + c
+unfolding rowOf
+row-snoc [] c = omega arith
+row-snoc (b ∷ cs) c =
+    let n : length (cs ++ (c ∷ [])) ≡ suc (length cs) = length-append cs (c ∷ []) ∙ add-one (length cs) in
+    let q : b * 2 ^ (32 * length (cs ++ (c ∷ []))) ≡ b * 2 ^ (32 * length cs) * 2 ^ 32 =
+    ap (λ (k : ℕ). b * 2 ^ (32 * k)) n ∙ ap (λ (k : ℕ). b * k) (sym (pow-cells (length cs)) ∙ mul-comm (2 ^ 32) (2 ^ (32 * length cs)))
+    ∙ sym (mul-assoc b (2 ^ (32 * length cs)) (2 ^ 32)) in
+    omega (arith, q, row-snoc cs c, add-mul (b * 2 ^ (32 * length cs)) (rowOf cs) (2 ^ 32))
+
+pub row-suc : (cs : List ℕ) (i : ℕ) → i < length cs → rowOf (take (i + 1) cs) ≡ rowOf (take i cs) * 2 ^ 32 + getD cs i 0
+row-suc cs i h = ap (λ (k : ℕ). rowOf (take k cs)) (add-one i) ∙ ap rowOf (take-suc cs i 0 h) ∙ row-snoc (take i cs) (getD cs i 0)
+
+-- ---- widths
 
 sum-snoc : (ws : List ℕ) (w : ℕ) → sum (ws ++ (w ∷ [])) ≡ sum ws + w
 unfolding sum
@@ -24,6 +44,22 @@ sum-at (w ∷ ws) (suc i) h = omega (arith, sum-at ws i (le-of-suc-le-suc h))
 
 pub sum-suc : (ws : List ℕ) (i : ℕ) → i < length ws → sum (take (i + 1) ws) ≡ sum (take i ws) + getD ws i 0
 sum-suc ws i h = ap (λ (k : ℕ). sum (take k ws)) (add-one i) ∙ ap sum (take-suc ws i 0 h) ∙ sum-snoc (take i ws) (getD ws i 0)
+
+-- fewer digits, fewer widths; no width is nothing
+pub sum-fewer : (ws : List ℕ) (i : ℕ) → i ≤ length ws → sum (take i ws) < sum ws → i < length ws
+sum-fewer ws i l h =
+    ⊎-elim (λ e. absurd (not-less (ap sum (take-all i ws (omega arith))))) (λ q. q) (eq-or-lt-of-le l)
+  where
+    not-less : sum (take i ws) ≡ sum ws → ⊥
+    not-less e = omega arith
+
+pub sum-whole : (ws : List ℕ) → Narrow ws → (i : ℕ) → i ≤ length ws → sum ws ≤ sum (take i ws) → i ≡ length ws
+sum-whole ws h i l m = ⊎-elim (λ e. e) (λ q. absurd (more q)) (eq-or-lt-of-le l)
+  where
+    more : i < length ws → ⊥
+    more q = omega (arith, sum-at ws i q, h i q .0)
+
+-- ---- numbers in their widths
 
 packed-snoc : (ws xs : List ℕ) (w x : ℕ) → length xs ≡ length ws → packed (ws ++ (w ∷ [])) (xs ++ (x ∷ [])) ≡ packed ws xs * 2 ^ w + x % 2 ^ w
 unfolding packed sum

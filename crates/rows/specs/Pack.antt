@@ -24,7 +24,7 @@ packed-lt (w ∷ ws) [] = pow-pos (w + sum ws)
 packed-lt (w ∷ ws) (x ∷ xs) = subst (λ (y : ℕ). packed (w ∷ ws) (x ∷ xs) < y) (sym (pow-add 2 w (sum ws))) (digits-lt (mod-lt x (pow-pos w)) (packed-lt ws xs))
 
 -- only the digits of the widths count
-unpacked-low : (ws : List ℕ) (n m : ℕ) → n % 2 ^ sum ws ≡ m % 2 ^ sum ws → unpacked ws n ≡ unpacked ws m
+pub unpacked-low : (ws : List ℕ) (n m : ℕ) → n % 2 ^ sum ws ≡ m % 2 ^ sum ws → unpacked ws n ≡ unpacked ws m
 unfolding unpacked sum
 unpacked-low [] n m e = refl
 unpacked-low (w ∷ ws) n m e =

@@ -1,70 +1,126 @@
-// Fields of 1 to 32 bits at any bit of a row of cells, most significant first, across a cell's end too.
+// Numbers of 1 to 32 bits, one after the other, in a row of cells: most significant first, across a cell's end too.
 ghost use mathlib.Core.Path.{_≡_};
-ghost use Prim.Native.Nat.{ℕ, _+_, _*_, _≤_, _<_};
-ghost use lib.ListN.{length, getD};
-ghost use Rattle.packing.specs.Packing.{rowOf, sum, packed, unpacked};
-ghost use Rattle.rows.specs.Row.{rowField, rowPut};
+ghost use Prim.Native.Nat.{ℕ, _+_, _*_, _^_, _%_, _≤_, _<_};
+ghost use lib.ListN.{length, getD, take};
+ghost use Rattle.packing.specs.Packing.{rowOf, cellsOf, sum, packed, unpacked};
+ghost use Rattle.rows.specs.Waiting.{Narrow, Begun, Packs, Unpacks};
 
-// The field of `width` bits whose top bit is `at` bits below the row's.
-pub fn take_field(cells: &[u32], at: usize, width: u32) -> u32
-    requires { ⌜ (1 ≤ width) × (width ≤ 32) × (at + width ≤ 32 * length (now cells)) ⌝ }
-    ensures { λ r. ⌜ r ≡ rowField (now (cells .entry)) at width ⌝ }
-{
-    let i = at / 32;
-    let t = (at % 32) as u32;
-    if t + width <= 32 {
-        return packing::take_bits(cells[i], width, t);
-    }
-    let low = t + width - 32;
-    let high = 32 - t;
-    (packing::take_bits(cells[i], high, t) << low) + packing::take_bits(cells[i + 1], low, 0)
+// Bits that wait between the numbers and the cells, as one number, and which of the numbers comes next.
+struct Waiting {
+    number: u64,
+    bits: u32,
+    next: usize,
 }
 
-// The field replaced by the low `width` bits of `x`.
-pub fn put_field(cells: &mut [u32], at: usize, width: u32, x: u32)
-    requires { ⌜ (1 ≤ width) × (width ≤ 32) × (at + width ≤ 32 * length (now cells)) ⌝ }
-    ensures { λ _. ⌜ rowOf (now (cells .exit)) ≡ rowPut (now (cells .entry)) at width x ⌝ }
+// The low bits of a number.
+fn low(value: u32, width: u32) -> u64
+    requires { ⌜ (1 ≤ width) × (width ≤ 32) ⌝ }
+    ensures { λ r. ⌜ r ≡ value % 2 ^ width ⌝ }
 {
-    let i = at / 32;
-    let t = (at % 32) as u32;
-    if t + width <= 32 {
-        cells[i] = packing::put_bits(cells[i], width, t, x);
-        return;
-    }
-    let low = t + width - 32;
-    let high = 32 - t;
-    cells[i] = packing::put_bits(cells[i], high, t, x >> low);
-    cells[i + 1] = packing::put_bits(cells[i + 1], low, 0, x);
+    packing::take_bits(value, width, 32 - width) as u64
 }
 
-// The values, each of a width of its own, put one after the other from bit `at` on.
-pub fn put_all(cells: &mut [u32], at: usize, widths: &[u32], values: &[u32])
-    requires { ⌜ ((i : ℕ) → i < length (now widths) → (1 ≤ getD (now widths) i 0) × (getD (now widths) i 0 ≤ 32)) ⌝ }
-    requires { ⌜ (length (now values) ≡ length (now widths)) × (at + sum (now widths) ≤ 32 * length (now cells)) × (length (now cells) ≤ 65536) ⌝ }
-    ensures { λ _. ⌜ rowOf (now (cells .exit)) ≡ rowPut (now (cells .entry)) at (sum (now (widths .entry))) (packed (now (widths .entry)) (now (values .entry))) ⌝ }
+// Numbers come below the bits that wait, until a cell is full.
+fn gather(widths: &[u32], values: &[u32], waiting: Waiting) -> Waiting
+    requires { ⌜ Narrow (now widths) × (length (now values) ≡ length (now widths)) ⌝ }
+    requires { ⌜ Begun (now widths) (waiting .number) (waiting .bits) (waiting .next) ⌝ }
+    requires { ⌜ 32 + sum (take (waiting .next) (now widths)) ≤ waiting .bits + sum (now widths) ⌝ }
+    ensures { λ r. ⌜ (32 ≤ r .bits) × Begun (now (widths .entry)) (r .number) (r .bits) (r .next) ⌝ }
+    ensures { λ r. ⌜ sum (take (r .next) (now (widths .entry))) + waiting .bits ≡ sum (take (waiting .next) (now (widths .entry))) + r .bits ⌝ }
+    ensures { λ r. ⌜ ((row : ℕ) → Packs (now (widths .entry)) (now (values .entry)) row (waiting .number) (waiting .bits) (waiting .next) → Packs (now (widths .entry)) (now (values .entry)) row (r .number) (r .bits) (r .next)) ⌝ }
 {
-    let mut here = at;
-    let mut i = 0;
-    while i < widths.len() {
-        let width = widths[i];
-        put_field(cells, here, width, values[i]);
-        here += width as usize;
-        i += 1;
+    let mut number = waiting.number;
+    let mut bits = waiting.bits;
+    let mut next = waiting.next;
+    while bits < 32 {
+        let width = widths[next];
+        number = (number << width) + low(values[next], width);
+        bits += width;
+        next += 1;
+    }
+    Waiting {
+        number: number,
+        bits: bits,
+        next: next,
     }
 }
 
-// The same values taken out again.
-pub fn take_all(cells: &[u32], at: usize, widths: &[u32], values: &mut [u32])
-    requires { ⌜ ((i : ℕ) → i < length (now widths) → (1 ≤ getD (now widths) i 0) × (getD (now widths) i 0 ≤ 32)) ⌝ }
-    requires { ⌜ (length (now values) ≡ length (now widths)) × (at + sum (now widths) ≤ 32 * length (now cells)) × (length (now cells) ≤ 65536) ⌝ }
-    ensures { λ _. ⌜ now (values .exit) ≡ unpacked (now (widths .entry)) (rowField (now (cells .entry)) at (sum (now (widths .entry)))) ⌝ }
+// The numbers, each in its width, fill the cells.
+pub fn pack(cells: &mut [u32], widths: &[u32], values: &[u32])
+    requires { ⌜ Narrow (now widths) × (length (now values) ≡ length (now widths)) × (sum (now widths) ≡ 32 * length (now cells)) ⌝ }
+    ensures { λ _. ⌜ now (cells .exit) ≡ cellsOf (length (now (cells .entry))) (packed (now (widths .entry)) (now (values .entry))) ⌝ }
 {
-    let mut here = at;
-    let mut i = 0;
-    while i < widths.len() {
-        let width = widths[i];
-        values[i] = take_field(cells, here, width);
-        here += width as usize;
-        i += 1;
+    let mut number: u64 = 0;
+    let mut bits: u32 = 0;
+    let mut next: usize = 0;
+    let mut full = 0;
+    while full < cells.len() {
+        let gathered = gather(
+            widths,
+            values,
+            Waiting {
+                number: number,
+                bits: bits,
+                next: next,
+            },
+        );
+        bits = gathered.bits - 32;
+        next = gathered.next;
+        let cell = gathered.number >> bits;
+        cells[full] = cell as u32;
+        number = gathered.number - (cell << bits);
+        full += 1;
+    }
+}
+
+// Numbers are handed out from the top of the bits that wait, until the next one is wider than they are many.
+fn hand_out(widths: &[u32], values: &mut [u32], waiting: Waiting) -> Waiting
+    requires { ⌜ Narrow (now widths) × (length (now values) ≡ length (now widths)) ⌝ }
+    requires { ⌜ Begun (now widths) (waiting .number) (waiting .bits) (waiting .next) ⌝ }
+    ensures { λ r. ⌜ (r .next < length (now (widths .entry)) → r .bits < getD (now (widths .entry)) (r .next) 0) × Begun (now (widths .entry)) (r .number) (r .bits) (r .next) ⌝ }
+    ensures { λ r. ⌜ sum (take (r .next) (now (widths .entry))) + r .bits ≡ sum (take (waiting .next) (now (widths .entry))) + waiting .bits ⌝ }
+    ensures { λ r. ⌜ ((row : ℕ) → Unpacks (now (widths .entry)) (now (values .entry)) row (waiting .number) (waiting .bits) (waiting .next) → Unpacks (now (widths .entry)) (now (values .exit)) row (r .number) (r .bits) (r .next)) ⌝ }
+{
+    let mut number = waiting.number;
+    let mut bits = waiting.bits;
+    let mut next = waiting.next;
+    while next < widths.len() {
+        let width = widths[next];
+        if bits < width {
+            break;
+        }
+        bits -= width;
+        let value = number >> bits;
+        values[next] = value as u32;
+        number -= value << bits;
+        next += 1;
+    }
+    Waiting {
+        number: number,
+        bits: bits,
+        next: next,
+    }
+}
+
+// The numbers, each in its width, that fill the cells.
+pub fn unpack(cells: &[u32], widths: &[u32], values: &mut [u32])
+    requires { ⌜ Narrow (now widths) × (length (now values) ≡ length (now widths)) × (sum (now widths) ≡ 32 * length (now cells)) ⌝ }
+    ensures { λ _. ⌜ now (values .exit) ≡ unpacked (now (widths .entry)) (rowOf (now (cells .entry))) ⌝ }
+{
+    let mut number: u64 = 0;
+    let mut bits: u32 = 0;
+    let mut next: usize = 0;
+    let mut read = 0;
+    while read < cells.len() {
+        let more = Waiting {
+            number: (number << 32) + cells[read] as u64,
+            bits: bits + 32,
+            next: next,
+        };
+        let left = hand_out(widths, values, more);
+        number = left.number;
+        bits = left.bits;
+        next = left.next;
+        read += 1;
     }
 }

@@ -1,25 +1,25 @@
 -- `encoding::put_head` meets its contract: three fields fill a cell. Assumes nothing.
-use mathlib.Core.Path.{refl, _∙_}
+use Prim.Native.Nat.{ℕ}
+use mathlib.Core.Path.{refl, ap, _∙_}
 use mathlib.Core.List.{[], _∷_}
-use denote.Ref.{now}
 use native.Mathlib.Omega.{arith}
-use Rattle.rows.specs.Whole.{put-whole}
+use Rattle.packing.specs.Packing.{packed, cellsOf}
 use Rattle.image.specs.Image.{headWidths, headImage}
 use Rattle.encoding.specs.Widths.{head-sum, head-narrow}
 use borrow.Author.Needs.{needs}
 use Rattle.encoding.proofs.put_head.Statement.{statement}
 use Rattle.encoding.proofs.put_head.Tie as tie
 
-slice-aggregate-put-all : tie.Need-slice-aggregate-put-all
-slice-aggregate-put-all c = search needs
+slice-aggregate-pack : tie.Need-slice-aggregate-pack
+slice-aggregate-pack c = search needs
 
-slice-aggregate-put-all-2 : tie.Need-slice-aggregate-put-all-2
-slice-aggregate-put-all-2 c = search needs
+slice-aggregate-pack-2 : tie.Need-slice-aggregate-pack-2
+slice-aggregate-pack-2 c = search needs
 
-put-all-requires : tie.Need-put-all-requires
+pack-requires : tie.Need-pack-requires
 unfolding headWidths
-put-all-requires c κs =
-    (head-narrow, (refl, omega (arith, head-sum), omega arith))
+pack-requires c κs =
+    (head-narrow, refl, omega (arith, head-sum))
 
 same-length : tie.Need-same-length
 same-length c = search needs
@@ -27,16 +27,16 @@ same-length c = search needs
 returns : tie.Need-returns
 unfolding headImage headWidths
 returns c =
-    let f = c .before .before .put-all in
+    let f = c .before .before .pack in
     let s = c .before .before .before .before .before .before .before in
-    put-whole (now (s .args .out)) (f .last .0) headWidths (1 ∷ s .args .segments ∷ 0 ∷ []) 1 (λ i. c .slice-known2 .given i .fits) (f .kept .0 ∙ s .pre) (s .pre) head-sum (f .ensures)
+    f .ensures ∙ ap (λ (n : ℕ). cellsOf n (packed headWidths (1 ∷ s .args .segments ∷ 0 ∷ []))) (s .pre)
 
 pub put-head-spec : {M : Type 1} → statement M
 put-head-spec =
     tie.close
     (tie.spec
-    slice-aggregate-put-all
-    slice-aggregate-put-all-2
-    put-all-requires
+    slice-aggregate-pack
+    slice-aggregate-pack-2
+    pack-requires
     same-length
     returns)

@@ -1,30 +1,46 @@
--- `encoding::put_record` meets its contract: fifty fields fill 14 cells. Assumes nothing.
+-- `encoding::put_record` meets its contract: numbers that are all zero fill cells that are. Assumes nothing.
+use Prim.Native.Nat.{ℕ}
+use mathlib.Core.Path.{sym, ap, _∙_}
 use denote.Ref.{now}
-use mathlib.Core.Path.{_∙_}
-use native.Mathlib.Omega.{arith}
-use borrow.Author.Needs.{needs}
-use Rattle.rows.specs.Whole.{put-whole}
+use lib.ListN.{replicate}
+use Rattle.rows.specs.Zeros.{pack-zeros}
 use Rattle.image.specs.Image.{recordWidths}
-use Rattle.encoding.specs.Widths.{record-sum, record-narrow}
+use borrow.Author.Needs.{needs}
 use Rattle.encoding.proofs.put_record.Statement.{statement}
 use Rattle.encoding.proofs.put_record.Tie as tie
 
-slice-aggregate-put-all : tie.Need-slice-aggregate-put-all
-slice-aggregate-put-all c = search needs
+all-zero-requires : tie.Need-all-zero-requires
+all-zero-requires c κs = search needs
 
-put-all-requires : tie.Need-put-all-requires
-unfolding recordWidths
-put-all-requires c κs = (record-narrow, (c .before .before .before .before .pre .0, omega (arith, record-sum), omega arith))
+fill-cells-requires : tie.Need-fill-cells-requires
+fill-cells-requires c κs = search needs
 
 same-length : tie.Need-same-length
 same-length c = search needs
 
 returns : tie.Need-returns
-unfolding recordWidths
 returns c =
-    let f = c .before .before .put-all in
-    let s = c .before .before .before .before .before .before .before in
-    put-whole (now (s .args .out)) (f .last .0) recordWidths (now (s .args .values)) 14 (λ i. c .slice-known2 .given i .fits) (f .kept .0 ∙ s .pre .1) (s .pre .1) record-sum (f .ensures)
+    let s = c .before .before .before .before .before .before .before .before in
+    c .before .before .fill-cells .ensures ∙ ap (λ (n : ℕ). replicate n 0) (s .pre .1)
+    ∙ sym (pack-zeros recordWidths (now (s .args .values)) 14 (sym (c .before .before .before .before .before .all-zero .ensures) ∙ c .before .before .before .before .if1 .taken))
+
+pack-record-requires : tie.Need-pack-record-requires
+pack-record-requires c κs = search needs
+
+same-length-2 : tie.Need-same-length-2
+same-length-2 c = search needs
+
+returns-2 : tie.Need-returns-2
+returns-2 c = search needs
 
 pub put-record-spec : {M : Type 1} → statement M
-put-record-spec = tie.close (tie.spec slice-aggregate-put-all put-all-requires same-length returns)
+put-record-spec =
+    tie.close
+    (tie.spec
+    all-zero-requires
+    fill-cells-requires
+    same-length
+    returns
+    pack-record-requires
+    same-length-2
+    returns-2)
