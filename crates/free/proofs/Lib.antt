@@ -2,4 +2,6 @@
 pub mod Cells
 pub mod Counts
 pub mod Marks
+pub mod Runs
 pub mod Search
+pub mod Scan

@@ -1,8 +1,10 @@
 -- The rows that hold a segment, one list after the other, and what a search through them finds. Assumes nothing.
-use Prim.Native.Nat.{ℕ, _+_, _-_, _≤_, _<_}
+use Prim.Native.Nat.{ℕ, zero, suc, _+_, _-_, _≤_, _<_}
 use mathlib.Core.Path.{_≡_, refl, sym, ap, _∙_}
+use mathlib.Core.Logic.{⊎-elim}
 use mathlib.Core.Bool.{Bool, true, false, not, _&&_, and-true}
 use mathlib.Core.List.{List}
+use native.Mathlib.Numerals.{add-one}
 use native.Mathlib.Omega.{arith}
 use native.Mathlib.Decide.{ℕ-discrete}
 use mir.Val.{boolByte}
@@ -11,8 +13,9 @@ use lib.ListN.{length, getD, set, take, drop}
 use lib.Seq.{getD-set-same, getD-set-other}
 use borrow.Author.Tests.{le-leb, leb-true, lt-ltb, le-ltb}
 use Rattle.combine.specs.Below.{allBelow, all-zero, all-suc, all-at, all-make, all-bad, all-cong}
-use Rattle.combine.specs.First.{firstBelow, first-at}
+use Rattle.combine.specs.First.{firstBelow, first-zero, first-more, first-at}
 use Rattle.combine.specs.Lists.{isIn, part}
+use Rattle.combine.specs.Numbers.{le-or-lt}
 use Rattle.combine.specs.Parts.{length-part}
 use Rattle.segments.specs.Free.{isFree, lowestFree}
 use Rattle.tables.specs.Layout.{segmentsIn}
@@ -23,6 +26,7 @@ use Rattle.cells.specs.Says.{houseOf}
 use Rattle.free.specs.Rows.{startOf, rowOf, row-inside, row-fits}
 use Rattle.free.specs.Lists.{free-rows}
 use Rattle.free.specs.Held.{HeldRows}
+use Rattle.free.specs.Run.{RunEnd}
 use Rattle.free.proofs.Cells.{lent-part}
 use Rattle.free.proofs.Counts.{byte-few}
 
@@ -72,6 +76,14 @@ module _ (t starts counts : List ℕ) (i n s c : ℕ) (es : s ≡ startOf i) (ec
 
 -- ---- what the rows of all lists say
 
+-- no segment below s is free
+abbrev pub NoneFree : List ℕ → ℕ → Type 0
+NoneFree t s = (g : ℕ) → g < s → isFree (houseOf t) g ≡ false
+
+-- row q does not list g
+abbrev pub lacks : List ℕ → List ℕ → List ℕ → ℕ → ℕ → Bool
+lacks t starts counts g q = not (isIn g (part t (getD starts q 0) (getD counts q 0)))
+
 module _ (t : List ℕ) (w : Ranged t) (n : ℕ) (starts counts : List ℕ) (h : HeldRows t 96 n starts counts) where
   pub rows-fit : (q : ℕ) → q < n → getD starts q 0 + getD counts q 0 ≤ length t
   rows-fit q l =
@@ -91,27 +103,30 @@ module _ (t : List ℕ) (w : Ranged t) (n : ℕ) (starts counts : List ℕ) (h :
       let e = ap length (lent-part t (getD starts q 0) (getD counts q 0)) ∙ length-part t (getD starts q 0) (getD counts q 0) (rows-fit q l) in
       omega (arith, e, rows-short q l)
 
-  pub rows-free : (g : ℕ) → isFree (houseOf t) g ≡ allBelow n (λ q. not (isIn g (part t (getD starts q 0) (getD counts q 0))))
+  pub rows-free : (g : ℕ) → isFree (houseOf t) g ≡ allBelow n (lacks t starts counts g)
   unfolding rowOf part
   rows-free g = free-rows t w g ∙ sym (h .every (λ a c. not (isIn g (part t a c))) (λ j lj. refl))
 
-  pub rows-hit : (g q : ℕ) → q < n → isIn g (take (getD starts q 0 + getD counts q 0 - getD starts q 0) (drop (getD starts q 0) t)) ≡ true → isFree (houseOf t) g ≡ false
+  rows-hit : (g q : ℕ) → q < n → isIn g (take (getD starts q 0 + getD counts q 0 - getD starts q 0) (drop (getD starts q 0) t)) ≡ true → isFree (houseOf t) g ≡ false
   rows-hit g q l e =
       rows-free g ∙ all-bad _ n q l (ap not (ap (isIn g) (sym (lent-part t (getD starts q 0) (getD counts q 0))) ∙ e))
 
-  pub rows-missed : (g q : ℕ) → q ≡ n → allBelow q (λ j. not (isIn g (part t (getD starts j 0) (getD counts j 0)))) ≡ true → isFree (houseOf t) g ≡ true
-  rows-missed g q e h =
-      rows-free g ∙ ap (λ (k : ℕ). allBelow k (λ j. not (isIn g (part t (getD starts j 0) (getD counts j 0))))) (sym e) ∙ h
+  -- the run that row q lists, as the code lends it
+  pub none-run : (s q r : ℕ) → q < n → NoneFree t s → RunEnd (take (getD starts q 0 + getD counts q 0 - getD starts q 0) (drop (getD starts q 0) t)) s r → NoneFree t r
+  none-run s q r l m e g h = ⊎-elim (λ a. rows-hit g q l (e .each g a h)) (m g) (le-or-lt s g)
 
 -- ---- the lowest free segment
 
-module _ (t : List ℕ) where
-  pub lowest-none : (n s : ℕ) → n ≡ segmentsIn t → n ≤ s → s ≤ n → firstBelow s (isFree (houseOf t)) ≡ s → n ≡ lowestFree (houseOf t)
-  unfolding lowestFree houseOf
-  lowest-none n s e l m h =
-      let z : s ≡ segmentsIn t = omega arith in
-      e ∙ sym z ∙ sym h ∙ ap (λ (k : ℕ). firstBelow k (isFree (houseOf t))) z
+first-none : (f : ℕ → Bool) (n : ℕ) → ((g : ℕ) → g < n → f g ≡ false) → firstBelow n f ≡ n
+first-none f zero h = first-zero f
+first-none f (suc n) h =
+    rw add-one at (first-more f n (first-none f n (λ g l. h g (omega arith))) (h n (omega arith)))
 
-  pub lowest-here : (n s : ℕ) → n ≡ segmentsIn t → s < n → firstBelow s (isFree (houseOf t)) ≡ s → isFree (houseOf t) s ≡ true → s ≡ lowestFree (houseOf t)
+module _ (t : List ℕ) (n s : ℕ) (e : n ≡ segmentsIn t) (m : NoneFree t s) where
+  pub lowest-none : n ≤ s → n ≡ lowestFree (houseOf t)
   unfolding lowestFree houseOf
-  lowest-here n s e l h f = sym (first-at (isFree (houseOf t)) (segmentsIn t) s h f (omega arith))
+  lowest-none l = e ∙ sym (first-none (isFree (houseOf t)) (segmentsIn t) (λ g h. m g (omega arith)))
+
+  pub lowest-here : s < n → isFree (houseOf t) s ≡ true → s ≡ lowestFree (houseOf t)
+  unfolding lowestFree houseOf
+  lowest-here l f = sym (first-at (isFree (houseOf t)) (segmentsIn t) s (first-none (isFree (houseOf t)) s m) f (omega arith))

@@ -3,3 +3,5 @@ pub mod Any
 pub mod Rows
 pub mod Lists
 pub mod Held
+pub mod Round
+pub mod Run

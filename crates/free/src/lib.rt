@@ -1,7 +1,7 @@
 // Free segments: how many there are, and the lowest. A list of segment numbers is a row of cells of the tables.
 ghost use mathlib.Core.Path.{_≡_};
 ghost use mathlib.Core.Bool.{not, _&&_, cond};
-ghost use Prim.Native.Nat.{ℕ, _<_, _≤_};
+ghost use Prim.Native.Nat.{ℕ, _+_, _<_, _≤_};
 ghost use lib.Dec.{eqb};
 ghost use lib.ListN.{getD, length};
 ghost use Rattle.combine.specs.Below.{countBelow};
@@ -14,6 +14,8 @@ ghost use Rattle.cells.specs.Says.{houseOf};
 ghost use Rattle.tables.specs.ExtentFacts.{SoundExtent};
 ghost use Rattle.free.specs.Rows.{startOf};
 ghost use Rattle.free.specs.Held.{HeldRows};
+ghost use Rattle.free.specs.Round.{wrapped};
+ghost use Rattle.free.specs.Run.{RunEnd};
 use placing::Position;
 use placing::Segment;
 
@@ -161,7 +163,34 @@ fn lists(row: &[u32], number: u32) -> bool
     times != 0
 }
 
+// The row after this one; after the last comes the first.
+fn row_after(row: usize, rows: usize) -> usize
+    requires { ⌜ (row < rows) × (rows ≤ 96) ⌝ }
+    ensures { λ r. ⌜ r ≡ wrapped rows (row + 1) ⌝ }
+{
+    if row + 1 < rows {
+        return row + 1;
+    }
+    0
+}
+
+// The number after the run of numbers, from this one on, that the row lists in rising order.
+fn run_end(row: &[u32], number: u32) -> u32
+    requires { ⌜ (length (now row) ≤ 32) × (number ≤ 1024) ⌝ }
+    ensures { λ r. ⌜ RunEnd (now (row .entry)) number r ⌝ }
+{
+    let mut next = number;
+    let mut passed = 0;
+    while passed < row.len() {
+        next += (row[passed] == next) as u32;
+        passed += 1;
+    }
+    next
+}
+
 // "A taken segment is always the lowest-numbered free one": the number of segments, where none is free.
+// A file's segments usually stand together, and the next file's row usually follows: a scan starts at the row of the last
+// mention and goes round, and a mention passes the whole run that its row lists.
 pub fn lowest_free(tables: &[u32]) -> Segment
     requires { ⌜ Ranged (now tables) ⌝ }
     ensures { λ r. ⌜ r ≡ segment (lowestFree (houseOf (now (tables .entry)))) ⌝ }
@@ -169,19 +198,21 @@ pub fn lowest_free(tables: &[u32]) -> Segment
     let segments = tables[0];
     let rows = held_rows(tables);
     let mut number: u32 = 0;
+    let mut row: usize = 0;
     let found = 'search: loop {
         if segments <= number {
             break 'search segments;
         }
-        let mut row: usize = 0;
-        'scan: while row < rows.number {
+        let mut scanned: usize = 0;
+        'scan: while scanned < rows.number {
             let start = rows.starts[row];
             let count = rows.counts[row];
             if lists(&tables[start..start + count], number) {
-                number += 1;
+                number = run_end(&tables[start..start + count], number);
                 continue 'search;
             }
-            row += 1;
+            row = row_after(row, rows.number);
+            scanned += 1;
         }
         break 'search number;
     };
