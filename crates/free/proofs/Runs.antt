@@ -75,11 +75,10 @@ module _ (row : List ℕ) (number : ℕ) where
         go (yes e) = rw (eq-eqb (getD row passed 0) next e) (run-hit e)
         go (no d) = rw (ne-eqb (getD row passed 0) next d) (run-miss d)
 
-  pub run-done : (passed next : ℕ) → length row ≤ passed → passed ≤ 32 → RunOf row number passed next → RunEnd row number next
-  run-done passed next l m h =
+  pub run-done : (passed next : ℕ) → length row ≤ passed → RunOf row number passed next → RunEnd row number next
+  run-done passed next l h =
       record {
         start = h .start;
-        few = omega (arith, h .few);
         each = h .each;
         past = λ i. let w = place-in row number i in h .past (w .0) (omega (arith, w .1)) (w .2);
       }

@@ -47,7 +47,7 @@ loop-again c =
 returns : tie.Need-returns Inv-loop μ-loop
 returns c =
     let l = c .before .loop in
-    run-done _ _ (l .passed) (l .next) (omega arith) (omega arith) (l .inv .1)
+    run-done _ _ (l .passed) (l .next) (omega arith) (l .inv .1)
 
 pub run-end-spec : {M : Type 1} → statement M
 run-end-spec =
