@@ -1,4 +1,5 @@
 //! Tables to measure on and to begin histories from.
+use crate::random::Random;
 use crate::twin::TABLES;
 
 pub const CELLS: usize = 65_536;
@@ -91,6 +92,27 @@ pub fn filled(records: usize, name: fn(usize) -> Name, held: u32) -> Vec<u32> {
     tables
 }
 
+/// 64 records of 15 segments each, their numbers as told: from a place and a stretch.
+fn dealt(number: impl Fn(usize, usize) -> u32) -> Vec<u32> {
+    let mut tables = filled(64, short, 15);
+    for place in 0..64 {
+        for stretch in 0..15 {
+            tables[19 + 50 * place + stretch] = number(place, stretch);
+        }
+    }
+    tables
+}
+
+/// The numbers below 960 in an order of chance.
+fn shuffled() -> Vec<u32> {
+    let mut random = Random(7);
+    let mut numbers: Vec<u32> = (0..960).collect();
+    for last in (1..960).rev() {
+        numbers.swap(last, random.below(last as u32 + 1) as usize);
+    }
+    numbers
+}
+
 /// Every entry reads a record of its user's.
 fn all_reading(mut tables: Vec<u32>) -> Vec<u32> {
     for entry in 0..32 {
@@ -111,6 +133,13 @@ pub fn for_decisions() -> Vec<(&'static str, Vec<u32>)> {
             tables
         }),
         ("64 records, 960 segments listed, no opening", filled(64, short, 15)),
+        ("64 records, 960 segments listed, at random", {
+            let numbers = shuffled();
+            dealt(|place, stretch| numbers[15 * place + stretch])
+        }),
+        ("64 records, 960 segments listed, each in the record before the last one's", {
+            dealt(|place, stretch| (64 * stretch + 63 - place) as u32)
+        }),
         ("64 names alike in ten symbols", all_reading(filled(64, alike, 16))),
     ]
 }
