@@ -3,7 +3,7 @@ use Prim.Native.Nat.{ℕ}
 use mathlib.Core.Path.{_≡_, sym, ap, _∙_}
 use mathlib.Core.List.{List, _∷_, _++_}
 use borrow.Rule.Slice.PartMut.{putMid, postOf}
-use lib.ListN.{length, getD, take, drop, set, replicate, length-replicate, replicate-append-replicate}
+use lib.ListN.{length, getD, take, drop, set, replicate, length-set, length-replicate, replicate-append-replicate}
 use lib.Seq.{take-at, drop-at}
 use Rattle.combine.specs.Lists.{joined, tab, part}
 use Rattle.packing.specs.Packing.{unpacked, rowOf}
@@ -22,11 +22,14 @@ image-made t x ys z e f =
 zeros-after : drop {A = ℕ} 3200 (replicate 4992 0) ≡ replicate 1792 0
 zeros-after = ap (drop {A = ℕ} 3200) (sym (replicate-append-replicate 3200 1792 0)) ∙ drop-at (replicate 3200 0) (replicate 1792 0) 3200 (length-replicate {A = ℕ} 3200 0)
 
-pub tables-made : (img h x y z : List ℕ) → h ≡ unpacked headWidths (rowOf (take 1 img)) → length x ≡ tablesLength → y ≡ replicate (length x) 0
-    → z ≡ take 1 (set y 0 (getD h 1 0)) ++ (joined (tab places (recordFrom form1 img)) ++ drop 3201 (set y 0 (getD h 1 0))) → z ≡ tablesFrom form1 img
+pub tables-made : (img h x z : List ℕ) → h ≡ unpacked headWidths (rowOf (take 1 img)) → x ≡ replicate tablesLength 0
+    → z ≡ take 1 (set x 0 (getD h 1 0)) ++ (joined (tab places (recordFrom form1 img)) ++ drop 3201 (set x 0 (getD h 1 0))) → z ≡ tablesFrom form1 img
 unfolding tablesFrom headField part
-tables-made img h x y z e l q f =
-    let w : y ≡ replicate tablesLength 0 = q ∙ ap (λ (n : ℕ). replicate n 0) l in
+tables-made img h x z e w f =
     let records : List ℕ = joined (tab places (recordFrom form1 img)) in
     f ∙ (λ j. take 1 (set (w j) 0 (getD (e j) 1 0)) ++ (records ++ drop 3201 (set (w j) 0 (getD (e j) 1 0))))
     ∙ ap (λ (k : List ℕ). headField img 1 ∷ (records ++ k)) zeros-after
+
+-- zero behind their first cell
+pub zeros-behind : (x : List ℕ) (n : ℕ) → x ≡ replicate tablesLength 0 → (length (set x 0 n) ≡ tablesLength) × (drop 1 (set x 0 n) ≡ replicate 4992 0)
+zeros-behind x n w = (length-set x 0 n ∙ ap length w ∙ length-replicate {A = ℕ} tablesLength 0, ap (λ (y : List ℕ). drop 1 (set y 0 n)) w)

@@ -1,17 +1,19 @@
 -- A record in two parts: its fields and its segment numbers. Assumes nothing.
-use Prim.Native.Nat.{ℕ, _+_}
+use Prim.Native.Nat.{ℕ, _+_, _<_}
 use mathlib.Core.Path.{_≡_, sym, ap, _∙_}
 use mathlib.Core.List.{List, [], _++_, append-nil}
 use native.Mathlib.Omega.{arith}
 use borrow.Rule.Slice.PartMut.{putMid}
-use lib.ListN.{length, take, drop, length-drop, take-append-drop, drop-of-length-le}
-use lib.Seq.{length-take-le, take-at, take-all, drop-at}
+use lib.ListN.{length, getD, take, drop, length-drop, take-append-drop, drop-of-length-le, List·getD-append}
+use lib.Seq.{length-take-le, take-at, take-all, drop-at, getD-take, getD-drop, getD-append-add}
 use Rattle.combine.specs.Lists.{part}
 use Rattle.packing.specs.Packing.{rowOf, cellsOf, packed, unpacked}
+use Rattle.rows.specs.Waiting.{Fitting}
 use Rattle.rows.specs.Cells.{Cells, part-cells}
 use Rattle.rows.specs.Two.{pack-two, unpack-two}
 use Rattle.image.specs.Image.{recordWidths}
-use Rattle.encoding.specs.Widths.{fieldWidths, numberWidths, record-two, numbers-sum, fields-many}
+use Rattle.encoding.specs.Widths.{fieldWidths, numberWidths, record-two, numbers-sum, fields-many, numbers-many}
+use Rattle.encoding.specs.Fits.{Fits}
 
 -- the first m cells are replaced, and then the other n
 pub both-put : (m n : ℕ) (out a b : List ℕ) → length out ≡ m + n → length a ≡ m → putMid m n (putMid 0 m out a) b ≡ a ++ b
@@ -26,6 +28,18 @@ others-length m n out a l e = ap (λ (x : List ℕ). length (take n x)) (drop-at
 -- the first m elements, and then the other n
 both : (m n : ℕ) (l : List ℕ) → length l ≡ m + n → take m l ++ take n (drop m l) ≡ l
 both m n l e = ap (λ (x : List ℕ). take m l ++ x) (take-all n (drop m l) (omega (arith, length-drop m l))) ∙ take-append-drop m l
+
+pub fields-fit : (values : List ℕ) → Fits values → Fitting fieldWidths (take 18 values)
+fields-fit values f i l =
+    let m : i < 18 = omega (arith, fields-many) in
+    rw (getD-take 18 values i 0 m, sym (ap (λ (ws : List ℕ). getD ws i 0) record-two ∙ List·getD-append fieldWidths numberWidths 0 i l)) (f i (omega arith))
+
+pub numbers-fit : (values : List ℕ) → Fits values → Fitting numberWidths (take 32 (drop 18 values))
+numbers-fit values f i l =
+    let m : i < 32 = omega (arith, numbers-many) in
+    let w : getD recordWidths (18 + i) 0 ≡ getD numberWidths i 0 =
+    ap (λ (ws : List ℕ). getD ws (18 + i) 0) record-two ∙ ap (λ (n : ℕ). getD (fieldWidths ++ numberWidths) (n + i) 0) (sym fields-many) ∙ getD-append-add fieldWidths numberWidths i 0 in
+    rw (getD-take 32 (drop 18 values) i 0 m, getD-drop 18 values i 0, sym w) (f (18 + i) (omega arith))
 
 pub record-packed : (values : List ℕ) → length values ≡ 50 → cellsOf 4 (packed fieldWidths (take 18 values)) ++ cellsOf 10 (packed numberWidths (take 32 (drop 18 values))) ≡ cellsOf 14 (packed recordWidths values)
 record-packed values l =

@@ -1,12 +1,12 @@
 -- What the shifts of `take_bits` and `put_bits` are. Assumes nothing.
 use mathlib.Core.Path.{_≡_, ap, _∙_}
 use Prim.Native.Nat.{ℕ, _+_, _-_, _*_, _/_, _%_, _^_, _≤_}
-use native.Mathlib.Nat.{mod-lt, mul-div-mul-right, le-trans, mul-le-mul-right, mod-le, div-mul-le-self}
+use native.Mathlib.Nat.{mod-lt, mul-div-mul-right, div-one, le-trans, mul-le-mul-right, mod-le, div-mul-le-self}
 use native.Mathlib.Omega.{arith}
 use lib.Pow.{pow-pos, pow-add, shl-exact}
 use lib.Pow as P
 use Rattle.packing.specs.Packing.{field, takeBits, putBits}
-use Rattle.packing.specs.Fields.{field-lt, put-sum, bits-low}
+use Rattle.packing.specs.Fields.{field-lt, put-sum}
 
 -- ---- what the two shifts of the code are
 
@@ -19,6 +19,13 @@ two-shifts w t n h =
     ap (λ (y : ℕ). (n * 2 ^ t) % 2 ^ y / 2 ^ (32 - w)) e ∙ P.field (n * 2 ^ t) w (32 - w)
     ∙ ap (λ (y : ℕ). n * 2 ^ t / y % 2 ^ w) (ap (λ (y : ℕ). 2 ^ y) e′ ∙ pow-add 2 (32 - (t + w)) t)
     ∙ ap (λ (y : ℕ). y % 2 ^ w) (mul-div-mul-right n (2 ^ (32 - (t + w))) (pow-pos t))
+
+-- the low w digits of x, by the same two shifts
+pub bits-low : (w x : ℕ) → w ≤ 32 → takeBits w (32 - w) x ≡ x % 2 ^ w
+unfolding takeBits field
+bits-low w x h =
+    let e : 32 - (32 - w + w) ≡ 0 = omega arith in
+    ap (λ (y : ℕ). x / 2 ^ y % 2 ^ w) e ∙ ap (λ (y : ℕ). y % 2 ^ w) (div-one x)
 
 -- a field in its place is part of the number
 pub field-le : (w s n : ℕ) → field w s n * 2 ^ s ≤ n

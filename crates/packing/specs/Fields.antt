@@ -3,7 +3,7 @@
 use mathlib.Core.Path.{_≡_, sym, ap, _∙_, subst}
 use mathlib.Core.Logic.{_⊎_, ⊎-elim}
 use Prim.Native.Nat.{ℕ, zero, suc, _+_, _-_, _*_, _/_, _%_, _^_, _≤_, _<_}
-use native.Mathlib.Nat.{mod-lt, mod-eq-of-lt, mul-suc, mul-zero, mod-one, div-one, mul-le-mul-left, le-refl, add-comm, add-mul, mul-sub}
+use native.Mathlib.Nat.{mod-lt, mod-eq-of-lt, mul-suc, mul-zero, mod-one, mul-le-mul-left, le-refl, add-comm, add-mul, mul-sub}
 use native.Mathlib.Omega.{arith}
 use lib.Arith.{digits-lt}
 use lib.Pow.{pow-pos, pow-add, shr-lt, shr-shr, high, low, mod-pow-add, mod-mod-pow}
@@ -90,13 +90,6 @@ put-sum w s n x =
 pub bits-lt : (w t cell : ℕ) → takeBits w t cell < 2 ^ w
 unfolding takeBits
 bits-lt w t cell = field-lt w (32 - (t + w)) cell
-
--- the lowest element
-pub bits-low : (w x : ℕ) → w ≤ 32 → takeBits w (32 - w) x ≡ x % 2 ^ w
-unfolding takeBits field
-bits-low w x h =
-    let e : 32 - (32 - w + w) ≡ 0 = omega arith in
-    ap (λ (y : ℕ). x / 2 ^ y % 2 ^ w) e ∙ ap (λ (y : ℕ). y % 2 ^ w) (div-one x)
 
 pub bits-same : (w t cell x : ℕ) → takeBits w t (putBits w t cell x) ≡ x % 2 ^ w
 unfolding takeBits putBits

@@ -17,7 +17,7 @@ use Rattle.image.specs.Image.{form1, imageLength, imageOf, headField, tablesFro
 use Rattle.cells.specs.Outcomes.{lent, loadOut, saved, saveOut}
 use Rattle.roundtrip.specs.Closed.{closed}
 use Rattle.roundtrip.specs.Sound.{closed-sound}
-use Rattle.roundtrip.specs.Narrow.{records-fit}
+use Rattle.encoding.specs.Fits.{records-fit}
 use Rattle.roundtrip.specs.Images.{image-field, image-length, tables-again}
 
 -- "A number fits a store of at least 64 times as many cells", and there is one segment at least
@@ -62,7 +62,7 @@ module _ (cells : ℕ) (t : List ℕ) (ok : soundb cells t ≡ true) where
   pub saved-again : tablesFrom form1 (imageOf form1 t) ≡ closed t
   saved-again =
       let r = ranged-of cells t ok in
-      tables-again t (r .0) (omega (arith, r .3)) (records-fit t (segmentsIn t) (r .3) (r .1))
+      tables-again t (r .0) (omega (arith, r .3)) (records-fit t r)
 
   pub saved-sound : imageb form1 cells (imageOf form1 t) ≡ true
   unfolding imageb

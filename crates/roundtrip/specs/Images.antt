@@ -21,16 +21,9 @@ use Rattle.encoding.specs.Widths.{head-sum, record-sum, head-many, record-many}
 use Rattle.encoding.specs.Lengths.{head-length, record-image-length, record-from-length}
 use Rattle.encoding.specs.Pieces.{pieces-part, pieces-length, piece-at}
 use Rattle.roundtrip.specs.Closed.{closed}
-use Rattle.roundtrip.specs.Narrow.{Fits}
+use Rattle.encoding.specs.Fits.{Fits, head-fits}
 
 -- ---- the head
-
-head-fits : (n : ℕ) → n < 2048 → (i : ℕ) → i < length headWidths → getD (1 ∷ n ∷ 0 ∷ []) i 0 < 2 ^ getD headWidths i 0
-unfolding headWidths
-head-fits n h zero l = lit< tt
-head-fits n h (suc zero) l = h
-head-fits n h (suc (suc zero)) l = lit< tt
-head-fits n h (suc (suc (suc i))) l = absurd (let z : ⊥ = omega arith in z)
 
 head-back : (n : ℕ) → n < 2048 → unpacked headWidths (rowOf (headImage form1 n)) ≡ 1 ∷ n ∷ 0 ∷ []
 unfolding headImage

@@ -2,7 +2,6 @@
 pub mod Closed
 pub mod Lists
 pub mod Sound
-pub mod Narrow
 pub mod Images
 pub mod Done
 pub mod Roundtrip

@@ -2,13 +2,13 @@
 use mathlib.Core.Path.{_≡_, sym, ap, subst, _∙_}
 use mathlib.Core.List.{List}
 use Prim.Native.Nat.{ℕ, _+_, _-_, _*_, _/_, _%_, _^_, _≤_, _<_}
-use native.Mathlib.Nat.{add-mul, mul-assoc, mod-lt, lt-of-lt-of-le}
+use native.Mathlib.Nat.{add-mul, mul-assoc, mod-eq-of-lt, lt-of-lt-of-le}
 use native.Mathlib.Omega.{arith}
 use lib.Arith.{digits-lt}
 use lib.ListN.{length, getD, take}
-use lib.Pow.{pow-add, pow-pos, pow-mono, shl-exact, shr-lt, split}
+use lib.Pow.{pow-add, pow-mono, shl-exact, shr-lt, split}
 use Rattle.packing.specs.Packing.{sum, packed}
-use Rattle.rows.specs.Waiting.{Narrow, Begun, Packs}
+use Rattle.rows.specs.Waiting.{Narrow, Fitting, Begun, Packs}
 use Rattle.rows.specs.Longer.{sum-fewer, sum-suc, packed-suc}
 
 pow-shift : (r k b : ℕ) → r * 2 ^ k * 2 ^ b ≡ r * 2 ^ (k + b)
@@ -52,20 +52,23 @@ module _ (v k b : ℕ) (fits : v < 2 ^ (k + b)) (room : k + b ≤ 64) where
 
 -- ---- a number more comes below the bits that wait
 
-module _ (ws xs : List ℕ) (narrow : Narrow ws) (long : length xs ≡ length ws) where
+module _ (ws xs : List ℕ) (narrow : Narrow ws) (long : length xs ≡ length ws) (fit : Fitting ws xs) where
   -- while the bits that wait fill no cell, and those to come would, there is a number more
   pub more-left : (next₀ next bits₀ bits : ℕ) → next ≤ length ws → sum (take next ws) + bits₀ ≡ sum (take next₀ ws) + bits → 32 + sum (take next₀ ws) ≤ bits₀ + sum ws → bits < 32 → next < length ws
   more-left next₀ next bits₀ bits l s m h = sum-fewer ws next l (omega arith)
 
-  module _ (number bits next : ℕ) (begun : Begun ws number bits next) (h : bits < 32) (l : next < length ws) (x : ℕ) (e : x ≡ getD xs next 0 % 2 ^ getD ws next 0) where
+  module _ (number bits next : ℕ) (begun : Begun ws number bits next) (h : bits < 32) (l : next < length ws) where
     abbrev width : ℕ
     width = getD ws next 0
 
     room : bits + width ≤ 64
     room = omega (arith, narrow next l .1)
 
+    abbrev x : ℕ
+    x = getD xs next 0
+
     few : x < 2 ^ width
-    few = subst (λ (y : ℕ). y < 2 ^ width) (sym e) (mod-lt (getD xs next 0) (pow-pos width))
+    few = fit next l
 
     pub gather-fits : (number * 2 ^ width) % 2 ^ 64 + x < 2 ^ 64
     gather-fits = below-fits number bits width x (begun .2) few room
@@ -76,5 +79,5 @@ module _ (ws xs : List ℕ) (narrow : Narrow ws) (long : length xs ≡ length ws
 
     pub gather-packs : (row : ℕ) → Packs ws xs row number bits next → Packs ws xs row ((number * 2 ^ width) % 2 ^ 64 + x) (bits + width) (next + 1)
     gather-packs row p =
-        packed-suc ws xs next long l ∙ (λ j. p j * 2 ^ width + sym e j) ∙ below-row number bits width x (begun .2) few row
+        packed-suc ws xs next long l ∙ (λ j. p j * 2 ^ width + mod-eq-of-lt few j) ∙ below-row number bits width x (begun .2) few row
         ∙ ap (λ (y : ℕ). row * 2 ^ (bits + width) + y) (sym (below-shl number bits width x (begun .2) few room))

@@ -9,6 +9,10 @@ use Rattle.packing.specs.Packing.{packed}
 abbrev pub Narrow : List ℕ → Type 0
 Narrow ws = (i : ℕ) → i < length ws → (1 ≤ getD ws i 0) × (getD ws i 0 ≤ 32)
 
+-- no number is too wide
+abbrev pub Fitting : List ℕ → List ℕ → Type 0
+Fitting ws xs = (i : ℕ) → i < length ws → getD xs i 0 < 2 ^ getD ws i 0
+
 -- the bits that wait are fewer than 64
 abbrev pub Begun : List ℕ → ℕ → ℕ → ℕ → Type 0
 Begun ws number bits next = (next ≤ length ws) × (bits < 64) × (number < 2 ^ bits)

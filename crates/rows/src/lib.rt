@@ -1,9 +1,9 @@
 // Numbers of 1 to 32 bits, one after the other, in a row of cells: most significant first, across a cell's end too.
 ghost use mathlib.Core.Path.{_≡_};
-ghost use Prim.Native.Nat.{ℕ, _+_, _*_, _^_, _%_, _≤_, _<_};
+ghost use Prim.Native.Nat.{ℕ, _+_, _*_, _≤_, _<_};
 ghost use lib.ListN.{length, getD, take};
 ghost use Rattle.packing.specs.Packing.{rowOf, cellsOf, sum, packed, unpacked};
-ghost use Rattle.rows.specs.Waiting.{Narrow, Begun, Packs, Unpacks};
+ghost use Rattle.rows.specs.Waiting.{Narrow, Fitting, Begun, Packs, Unpacks};
 
 // Bits that wait between the numbers and the cells, as one number, and which of the numbers comes next.
 struct Waiting {
@@ -12,17 +12,9 @@ struct Waiting {
     next: usize,
 }
 
-// The low bits of a number.
-fn low(value: u32, width: u32) -> u64
-    requires { ⌜ (1 ≤ width) × (width ≤ 32) ⌝ }
-    ensures { λ r. ⌜ r ≡ value % 2 ^ width ⌝ }
-{
-    packing::take_bits(value, width, 32 - width) as u64
-}
-
 // Numbers come below the bits that wait, until a cell is full.
 fn gather(widths: &[u32], values: &[u32], waiting: Waiting) -> Waiting
-    requires { ⌜ Narrow (now widths) × (length (now values) ≡ length (now widths)) ⌝ }
+    requires { ⌜ Narrow (now widths) × (length (now values) ≡ length (now widths)) × Fitting (now widths) (now values) ⌝ }
     requires { ⌜ Begun (now widths) (waiting .number) (waiting .bits) (waiting .next) ⌝ }
     requires { ⌜ 32 + sum (take (waiting .next) (now widths)) ≤ waiting .bits + sum (now widths) ⌝ }
     ensures { λ r. ⌜ (32 ≤ r .bits) × Begun (now (widths .entry)) (r .number) (r .bits) (r .next) ⌝ }
@@ -34,7 +26,7 @@ fn gather(widths: &[u32], values: &[u32], waiting: Waiting) -> Waiting
     let mut next = waiting.next;
     while bits < 32 {
         let width = widths[next];
-        number = (number << width) + low(values[next], width);
+        number = (number << width) + values[next] as u64;
         bits += width;
         next += 1;
     }
@@ -47,7 +39,7 @@ fn gather(widths: &[u32], values: &[u32], waiting: Waiting) -> Waiting
 
 // The numbers, each in its width, fill the cells.
 pub fn pack(cells: &mut [u32], widths: &[u32], values: &[u32])
-    requires { ⌜ Narrow (now widths) × (length (now values) ≡ length (now widths)) × (sum (now widths) ≡ 32 * length (now cells)) ⌝ }
+    requires { ⌜ Narrow (now widths) × (length (now values) ≡ length (now widths)) × (sum (now widths) ≡ 32 * length (now cells)) × Fitting (now widths) (now values) ⌝ }
     ensures { λ _. ⌜ now (cells .exit) ≡ cellsOf (length (now (cells .entry))) (packed (now (widths .entry)) (now (values .entry))) ⌝ }
 {
     let mut number: u64 = 0;

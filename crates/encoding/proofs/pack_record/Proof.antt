@@ -8,7 +8,7 @@ use lib.ListN.{take, drop, length-drop}
 use lib.Seq.{length-take-le}
 use Rattle.packing.specs.Packing.{sum, packed, cellsOf}
 use Rattle.encoding.specs.Widths.{fieldWidths, numberWidths, fields-narrow, numbers-narrow}
-use Rattle.encoding.proofs.Two.{both-put, others-length, record-packed}
+use Rattle.encoding.proofs.Two.{both-put, others-length, fields-fit, numbers-fit, record-packed}
 use borrow.Author.Needs.{needs}
 use Rattle.encoding.proofs.pack_record.Statement.{statement}
 use Rattle.encoding.proofs.pack_record.Tie as tie
@@ -38,7 +38,7 @@ pack-requires : tie.Need-pack-requires
 unfolding fieldWidths sum
 pack-requires c κs =
     let s = c .before .before .before .before .before in
-    (fields-narrow, length-take-le 18 (now (s .args .values)) (omega arith), omega (arith, length-take-le 4 (now (s .args .out)) (omega arith)))
+    (fields-narrow, length-take-le 18 (now (s .args .values)) (omega arith), omega (arith, length-take-le 4 (now (s .args .out)) (omega arith)), fields-fit (now (s .args .values)) (s .pre .2))
 
 sub-pack-3 : tie.Need-sub-pack-3
 sub-pack-3 c = search needs
@@ -68,7 +68,7 @@ pack-requires-2 c κs =
     let f = c .before .before .before .before .before .pack in
     let out = now (s .args .out) in
     let ten = others-length 4 10 out (f .last .0) (s .pre .1) (f .kept .0 ∙ length-take-le 4 out (omega arith)) in
-    (numbers-narrow, length-take-le 32 (drop 18 (now (s .args .values))) (omega (arith, length-drop 18 (now (s .args .values)))), omega (arith, ten))
+    (numbers-narrow, length-take-le 32 (drop 18 (now (s .args .values))) (omega (arith, length-drop 18 (now (s .args .values)))), omega (arith, ten), numbers-fit (now (s .args .values)) (s .pre .2))
 
 same-length : tie.Need-same-length
 same-length c = search needs

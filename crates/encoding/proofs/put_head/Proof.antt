@@ -6,6 +6,7 @@ use native.Mathlib.Omega.{arith}
 use Rattle.packing.specs.Packing.{packed, cellsOf}
 use Rattle.image.specs.Image.{headWidths, headImage}
 use Rattle.encoding.specs.Widths.{head-sum, head-narrow}
+use Rattle.encoding.specs.Fits.{head-fits}
 use borrow.Author.Needs.{needs}
 use Rattle.encoding.proofs.put_head.Statement.{statement}
 use Rattle.encoding.proofs.put_head.Tie as tie
@@ -19,7 +20,8 @@ slice-aggregate-pack-2 c = search needs
 pack-requires : tie.Need-pack-requires
 unfolding headWidths
 pack-requires c κs =
-    (head-narrow, refl, omega (arith, head-sum))
+    let s = c .before .before .before .before in
+    (head-narrow, refl, omega (arith, head-sum), head-fits (s .args .segments) (omega (arith, s .pre .1)))
 
 same-length : tie.Need-same-length
 same-length c = search needs
@@ -29,7 +31,7 @@ unfolding headImage headWidths
 returns c =
     let f = c .before .before .pack in
     let s = c .before .before .before .before .before .before .before in
-    f .ensures ∙ ap (λ (n : ℕ). cellsOf n (packed headWidths (1 ∷ s .args .segments ∷ 0 ∷ []))) (s .pre)
+    f .ensures ∙ ap (λ (n : ℕ). cellsOf n (packed headWidths (1 ∷ s .args .segments ∷ 0 ∷ []))) (s .pre .0)
 
 pub put-head-spec : {M : Type 1} → statement M
 put-head-spec =

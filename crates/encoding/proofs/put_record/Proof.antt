@@ -9,8 +9,8 @@ use borrow.Author.Needs.{needs}
 use Rattle.encoding.proofs.put_record.Statement.{statement}
 use Rattle.encoding.proofs.put_record.Tie as tie
 
-all-zero-requires : tie.Need-all-zero-requires
-all-zero-requires c κs = search needs
+shared-slice-read-if1 : tie.Need-shared-slice-read-if1
+shared-slice-read-if1 c = search needs
 
 fill-cells-requires : tie.Need-fill-cells-requires
 fill-cells-requires c κs = search needs
@@ -22,10 +22,12 @@ returns : tie.Need-returns
 returns c =
     let s = c .before .before .before .before .before .before .before .before in
     c .before .before .fill-cells .ensures ∙ ap (λ (n : ℕ). replicate n 0) (s .pre .1)
-    ∙ sym (pack-zeros recordWidths (now (s .args .values)) 14 (sym (c .before .before .before .before .before .all-zero .ensures) ∙ c .before .before .before .before .if1 .taken))
+    ∙ sym (pack-zeros recordWidths (now (s .args .values)) 14 (s .pre .2 .blank (c .before .before .before .before .if1 .taken)))
 
 pack-record-requires : tie.Need-pack-record-requires
-pack-record-requires c κs = search needs
+pack-record-requires c κs =
+    let s = c .before .before .before .before .before in
+    (s .pre .0, s .pre .1, s .pre .2 .fits)
 
 same-length-2 : tie.Need-same-length-2
 same-length-2 c = search needs
@@ -37,7 +39,7 @@ pub put-record-spec : {M : Type 1} → statement M
 put-record-spec =
     tie.close
     (tie.spec
-    all-zero-requires
+    shared-slice-read-if1
     fill-cells-requires
     same-length
     returns

@@ -1,12 +1,13 @@
 -- `encoding::put_records` meets its contract: after p turns the image has p records after its first cell. Assumes nothing.
 use Prim.Native.Nat.{ℕ, _+_, _-_, _*_, _≤_}
-use mathlib.Core.Path.{_≡_, refl, ap, _∙_}
+use mathlib.Core.Path.{_≡_, refl, sym, ap, subst, _∙_}
 use mathlib.Core.List.{List}
 use denote.Ref.{now}
 use native.Mathlib.Omega.{arith}
 use lib.ListN.{length}
 use Rattle.packing.specs.Packing.{packed, cellsOf}
 use Rattle.image.specs.Image.{form1, recordWidths, recordImage}
+use Rattle.encoding.specs.Fits.{Writable, records-writable}
 use Rattle.encoding.specs.Lengths.{record-image-length}
 use Rattle.encoding.proofs.Turns.{mid-part, mid-is, placed, none-placed, one-placed, all-placed, image-full}
 use borrow.Author.Needs.{needs}
@@ -76,7 +77,13 @@ put-record-requires : tie.Need-put-record-requires Inv-loop μ-loop
 put-record-requires c κs =
     let s = c .before .before .before .before .before .before in
     let l = c .before .before .before .loop in
-    (mid-part (1 + 50 * l .p) (51 + 50 * l .p) 50 (now (s .args .tables)) (omega arith) (omega arith), mid-part (1 + 14 * l .p) (15 + 14 * l .p) 14 (l .image) (omega arith) (omega arith))
+    let t = now (s .args .tables) in
+    let row = mid-is (1 + 50 * l .p) (51 + 50 * l .p) 50 t (omega arith) in
+    let writable = records-writable t (s .pre .0) (l .p) (omega arith) in (
+      mid-part (1 + 50 * l .p) (51 + 50 * l .p) 50 t (omega arith) (omega (arith, s .pre .0 .0)),
+      mid-part (1 + 14 * l .p) (15 + 14 * l .p) 14 (l .image) (omega arith) (omega arith),
+      subst Writable (sym row) writable,
+    )
 
 add-p : tie.Need-add-p Inv-loop μ-loop
 add-p c = search needs

@@ -8,7 +8,7 @@ use lib.ListN.{length}
 use Rattle.packing.specs.Packing.{unpacked, rowOf}
 use Rattle.image.specs.Image.{form1, recordWidths, recordFrom}
 use Rattle.encoding.specs.Lengths.{record-from-length}
-use Rattle.encoding.proofs.Turns.{mid-part, mid-is, placed, none-placed, one-placed, all-placed}
+use Rattle.encoding.proofs.Turns.{mid-part, mid-is, placed, none-placed, not-placed, one-placed, all-placed, zeros-come}
 use borrow.Author.Needs.{needs}
 use Rattle.encoding.proofs.take_records.Statement.{statement}
 use Rattle.encoding.proofs.take_records.Tie as tie
@@ -76,7 +76,12 @@ take-record-requires : tie.Need-take-record-requires Inv-loop μ-loop
 take-record-requires c κs =
     let s = c .before .before .before .before .before .before in
     let l = c .before .before .before .loop in
-    (mid-part (1 + 14 * l .p) (15 + 14 * l .p) 14 (now (s .args .image)) (omega arith) (omega arith), mid-part (1 + 50 * l .p) (51 + 50 * l .p) 50 (l .tables) (omega arith) (omega arith))
+    let img = now (s .args .image) in
+    let t = now (s .args .tables) in (
+      mid-part (1 + 14 * l .p) (15 + 14 * l .p) 14 img (omega arith) (omega arith),
+      zeros-come t (l .tables) (l .p) (51 + 50 * l .p) (omega arith) (omega arith) (s .pre .2)
+          (not-placed (recordFrom form1 img) 50 (record-from-length img) t (l .tables) (l .p) (omega arith) (l .inv .2)),
+    )
 
 add-p : tie.Need-add-p Inv-loop μ-loop
 add-p c = search needs

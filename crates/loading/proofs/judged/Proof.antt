@@ -1,8 +1,12 @@
 -- `loading::judged` meets its contract. Assumes nothing.
+use Prim.Native.Nat.{ℕ}
+use mathlib.Core.Path.{sym, ap, _∙_}
 use denote.Ref.{now}
 use borrow.Author.Needs.{needs}
+use lib.ListN.{length, length-replicate}
 use Rattle.combine.specs.Below.{was-true, was-false}
 use Rattle.combine.specs.Lists.{part}
+use Rattle.placing.specs.Sizes.{tablesLength}
 use Rattle.loading.proofs.Laws.{other-form, not-zero, unsound, loaded}
 use Rattle.loading.proofs.judged.Statement.{statement}
 use Rattle.loading.proofs.judged.Tie as tie
@@ -57,7 +61,10 @@ returns-3 c =
     unsound (now (s .args .store)) (now (s .args .tables)) (now (s .args .image)) (s .pre .0 .0) (s .pre .0 .1) _ (h .take-head .ensures) _ (i .take-image .ensures) (was-false (c .if3 .taken) (c .before .sound .ensures))
 
 copy-cells-requires : tie.Need-copy-cells-requires
-copy-cells-requires c κs = search needs
+copy-cells-requires c κs =
+    let i = c .before .before .before .before .before .before .before in
+    let s = i .before .before .before .before .before .before .before .before .before .before in
+    i .take-image .kept .1 .0 ∙ ap length (s .pre .1 .1) ∙ length-replicate {A = ℕ} tablesLength 0 ∙ sym (s .pre .0 .0)
 
 same-length-2 : tie.Need-same-length-2
 same-length-2 c = search needs

@@ -22,7 +22,7 @@ returns-2 c =
 
 put-image-requires : tie.Need-put-image-requires
 put-image-requires c κs =
-    (ranged-of _ _ (was-true (c .before .before .if1 .left) (c .before .before .before .sound .ensures)) .0, c .before .if2 .left)
+    (ranged-of _ _ (was-true (c .before .before .if1 .left) (c .before .before .before .sound .ensures)), c .before .if2 .left)
 
 same-length : tie.Need-same-length
 same-length c = search needs

@@ -1,33 +1,44 @@
--- The numbers of a sound record fit the widths of the image. Assumes nothing.
+-- What the image rests on: the numbers of a sound record fit its widths, and an unused record is all zero. Assumes nothing.
 use Prim.Native.Nat.{ℕ, zero, suc, _+_, _-_, _^_, _≤_, _<_, zero-le}
-use mathlib.Core.Path.{_≡_, refl, ap, subst}
+use mathlib.Core.Path.{_≡_, refl, ap, subst, _∙_}
 use mathlib.Core.Logic.{⊎-elim}
 use mathlib.Core.Bool.{Bool, true, false, cond}
 use mathlib.Core.List.{List, [], _∷_, map}
 use native.Mathlib.Nat.{le-refl, lt-of-lt-of-le}
 use native.Mathlib.Numerals.{add-one}
 use native.Mathlib.Omega.{arith}
-use borrow.Author.Tests.{eqb-true, leb-true, ltb-true, ltb-false}
-use lib.Dec.{eqb, leb, ltb}
-use lib.ListN.{getD, List·getD-map}
+use borrow.Author.Tests.{eqb-true, eq-eqb, leb-true, ltb-true, ltb-false}
+use lib.Dec.{eqb, leb, ltb, lit<}
+use lib.ListN.{length, getD, List·getD-map}
 use Rattle.combine.specs.Below.{allBelow, all-at, split-bool}
 use Rattle.combine.specs.Numbers.{le-or-lt}
 use Rattle.combine.specs.Rows.{each-of}
 use Rattle.combine.specs.Lists.{part}
-use Rattle.combine.specs.Parts.{getD-part}
+use Rattle.combine.specs.Parts.{length-part, getD-part}
 use Rattle.placing.specs.Placing.{segment}
 use Rattle.placing.specs.Sizes.{places, mostSegments}
 use Rattle.names.specs.Names.{follows, nameb}
-use Rattle.tables.specs.Layout.{segmentNumber, recordBase, recordOf, recordAt}
+use Rattle.tables.specs.Layout.{segmentNumber, recordBase, recordOf, recordAt, segmentsIn}
 use Rattle.tables.specs.Fields.{numberAt}
 use Rattle.tables.specs.Records.{usedb, unusedb, recordb, recordsb}
 use Rattle.tables.specs.ExtentFacts.{SoundList}
 use Rattle.tables.specs.RecordFacts.{usedb-facts}
-use Rattle.image.specs.Image.{recordWidths}
+use Rattle.tables.specs.Sound.{Ranged}
+use Rattle.records.specs.Unused.{unused-row}
+use Rattle.image.specs.Image.{headWidths, recordWidths}
 
 -- 50 cells, each of its width
 abbrev pub Fits : List ℕ → Type 0
 Fits c = (k : ℕ) → k < 50 → getD c k 0 < 2 ^ getD recordWidths k 0
+
+-- ---- the head
+
+pub head-fits : (n : ℕ) → n < 2048 → (i : ℕ) → i < length headWidths → getD (1 ∷ n ∷ 0 ∷ []) i 0 < 2 ^ getD headWidths i 0
+unfolding headWidths
+head-fits n h zero l = lit< tt
+head-fits n h (suc zero) l = h
+head-fits n h (suc (suc zero)) l = lit< tt
+head-fits n h (suc (suc (suc i))) l = absurd (let z : ⊥ = omega arith in z)
 
 -- ---- above each number: used; symbols; owner, private, species, begin, end; segment numbers
 
@@ -142,6 +153,27 @@ module _ (n : ℕ) (most : n ≤ mostSegments) (c : List ℕ) where
   unfolding recordb
   record-fits ok = small-fits c (⊎-elim (λ p. unused-small p (rw p at ok)) (λ p. used-small (rw p at ok)) (split-bool (eqb (recordOf c .used) 0)))
 
-pub records-fit : (t : List ℕ) (n : ℕ) → n ≤ mostSegments → recordsb t n ≡ true → (p : ℕ) → p < places → Fits (part t (recordBase p) 50)
-unfolding recordsb recordAt
-records-fit t n most ok p lp = record-fits n most (part t (recordBase p) 50) (all-at _ places (each-of _ ok .0) p lp)
+  record-blank : length c ≡ 50 → recordb n (recordOf c) ≡ true → getD c 0 0 ≡ 0 → allBelow (length c) (λ k. eqb (getD c k 0) 0) ≡ true
+  unfolding recordb recordOf
+  record-blank l ok z = unused-row c l z ∙ (rw (eq-eqb (getD c 0 0) 0 z) at ok)
+
+pub record Writable (c : List ℕ) : Type 0 where
+  pub fits : Fits c
+  pub blank : getD c 0 0 ≡ 0 → allBelow (length c) (λ k. eqb (getD c k 0) 0) ≡ true
+
+-- ---- in sound tables
+
+module _ (t : List ℕ) (w : Ranged t) (p : ℕ) (l : p < places) where
+  sound : recordb (segmentsIn t) (recordOf (part t (recordBase p) 50)) ≡ true
+  unfolding recordsb recordAt
+  sound = all-at _ places (each-of _ (w .1) .0) p l
+
+  pub records-fit : Fits (part t (recordBase p) 50)
+  records-fit = record-fits (segmentsIn t) (w .3) (part t (recordBase p) 50) sound
+
+  pub records-writable : Writable (part t (recordBase p) 50)
+  records-writable =
+      record {
+        fits = records-fit;
+        blank = record-blank (segmentsIn t) (w .3) (part t (recordBase p) 50) (length-part t (recordBase p) 50 (omega (arith, w .0))) sound;
+      }
