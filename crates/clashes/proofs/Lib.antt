@@ -3,3 +3,4 @@ pub mod Digits
 pub mod Names
 pub mod Rows
 pub mod Places
+pub mod Shorts

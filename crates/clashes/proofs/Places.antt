@@ -14,7 +14,7 @@ use Rattle.placing.specs.Sizes.{places}
 use Rattle.tables.specs.Layout.{recordOf, recordAt}
 use Rattle.tables.specs.Fields.{isUsed}
 use Rattle.tables.specs.Records.{clash, aloneb}
-use Rattle.clashes.specs.Keys.{keyOf, Keyed}
+use Rattle.clashes.specs.Keys.{keyOf, shortOf, Halved, Keyed}
 
 module _ (t : List ℕ) (p : ℕ) where
   used-cell : recordAt t p .used ≡ getD t (1 + 50 * p) 0
@@ -36,8 +36,8 @@ module _ (t : List ℕ) (p : ℕ) where
 put-number : (f : ℕ → ℕ) (l : List ℕ) (p v : ℕ) → p < length l → ((q : ℕ) → q < p → getD l q 0 ≡ f q) → v ≡ f p → (q : ℕ) → q < p + 1 → getD (set l p v) q 0 ≡ f q
 put-number f l p v lp h e = below-more _ p (λ q s. getD-set-other l p q v 0 (λ z. omega arith) ∙ h q s) (getD-set-same l p v 0 lp ∙ e)
 
-pub keys-put : (t high low : List ℕ) (p a b : ℕ) → Keyed t high low p → p < places → a ≡ keyOf (recordAt t p) 0 → b ≡ keyOf (recordAt t p) 6 → Keyed t (set high p a) (set low p b) (p + 1)
-keys-put t high low p a b k l ea eb =
+halves-put : (t high low : List ℕ) (p a b : ℕ) → Halved t high low p → p < places → a ≡ keyOf (recordAt t p) 0 → b ≡ keyOf (recordAt t p) 6 → Halved t (set high p a) (set low p b) (p + 1)
+halves-put t high low p a b k l ea eb =
     record {
       long = k .long;
       spelled = k .spelled;
@@ -46,4 +46,12 @@ keys-put t high low p a b k l ea eb =
       low-long = length-set low p b ∙ k .low-long;
       highs = put-number (λ q. keyOf (recordAt t q) 0) high p a (omega (arith, k .high-long)) (k .highs) ea;
       lows = put-number (λ q. keyOf (recordAt t q) 6) low p b (omega (arith, k .low-long)) (k .lows) eb;
+    }
+
+pub keys-put : (t high low shorts : List ℕ) (p a b c : ℕ) → Keyed t high low shorts p → p < places → a ≡ keyOf (recordAt t p) 0 → b ≡ keyOf (recordAt t p) 6 → c ≡ shortOf a b → Keyed t (set high p a) (set low p b) (set shorts p c) (p + 1)
+keys-put t high low shorts p a b c k l ea eb ec =
+    record {
+      halves = halves-put t high low p a b (k .halves) l ea eb;
+      short-long = length-set shorts p c ∙ k .short-long;
+      short = put-number (λ q. shortOf (keyOf (recordAt t q) 0) (keyOf (recordAt t q) 6)) shorts p c (omega (arith, k .short-long)) (k .short) (ec ∙ (λ i. shortOf (ea i) (eb i)));
     }

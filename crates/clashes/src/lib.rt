@@ -8,7 +8,7 @@ ghost use Rattle.placing.specs.Sizes.{places, tablesLength};
 ghost use Rattle.tables.specs.Layout.{recordOf, recordAt};
 ghost use Rattle.tables.specs.Fields.{isUsed};
 ghost use Rattle.tables.specs.Records.{clash, aloneb};
-ghost use Rattle.clashes.specs.Keys.{keyOf, kinb, Spelled, Keyed};
+ghost use Rattle.clashes.specs.Keys.{keyOf, shortOf, kinb, Spelled, Halved, Keyed};
 
 fn wide(cell: u32) -> u64
     ensures { λ r. ⌜ (r ≡ cell) × (r < 4294967296) ⌝ }
@@ -29,6 +29,15 @@ fn key(row: &[u32], at: usize) -> u64
     (four * 64 + wide(row[at + 4])) * 64 + wide(row[at + 5])
 }
 
+// A number of 32 bits for two keys: names that are the same have the same, and others seldom. A key of six symbols is below
+// 2^37, so that no bit of it is lost, and each one reaches the 32 that are taken from the middle of the product.
+fn short(high: u64, low: u64) -> u32
+    ensures { λ r. ⌜ r ≡ shortOf high low ⌝ }
+{
+    let sum = high % 137438953472 + 3 * (low % 137438953472);
+    (sum * 25214903 / 65536 % 4294967296) as u32
+}
+
 // Of one owner, or both public.
 fn kin(left: &[u32], right: &[u32]) -> bool
     requires { ⌜ (length (now left) ≡ 50) × (length (now right) ≡ 50) ⌝ }
@@ -46,7 +55,7 @@ fn kin(left: &[u32], right: &[u32]) -> bool
 // Whether the used record at place p clashes with the one at place q before it. Names that agree at all mostly agree at
 // their beginning, so that the later half is compared first.
 fn clashes(tables: &[u32], high: &[u64; 64], low: &[u64; 64], p: usize, q: usize) -> bool
-    requires { ⌜ Keyed (now tables) (now high) (now low) (p + 1) × (q < p) × (isUsed (recordAt (now tables) p) ≡ true) ⌝ }
+    requires { ⌜ Halved (now tables) (now high) (now low) (p + 1) × (q < p) × (isUsed (recordAt (now tables) p) ≡ true) ⌝ }
     ensures { λ r. ⌜ r ≡ clash (recordAt (now (tables .entry)) p) (recordAt (now (tables .entry)) q) ⌝ }
 {
     if low[p] != low[q] {
@@ -62,11 +71,15 @@ fn clashes(tables: &[u32], high: &[u64; 64], low: &[u64; 64], p: usize, q: usize
     kin(&tables[here..beyond], &tables[there..after])
 }
 
-fn alone(tables: &[u32], high: &[u64; 64], low: &[u64; 64], p: usize) -> bool
-    requires { ⌜ Keyed (now tables) (now high) (now low) (p + 1) ⌝ }
+fn alone(tables: &[u32], high: &[u64; 64], low: &[u64; 64], shorts: &[u32], p: usize) -> bool
+    requires { ⌜ Keyed (now tables) (now high) (now low) (now shorts) (p + 1) ⌝ }
     ensures { λ r. ⌜ r ≡ aloneb (now (tables .entry)) p ⌝ }
 {
     if tables[1 + 50 * p] != 1 {
+        return true;
+    }
+    // Names that are the same have the same short key: where no record before has it, none is compared one by one.
+    if !combine::lists(&shorts[0..p], shorts[p]) {
         return true;
     }
     let mut q = 0;
@@ -86,14 +99,18 @@ pub fn names_sound(tables: &[u32]) -> bool
 {
     let mut high = [0u64; 64];
     let mut low = [0u64; 64];
+    let mut shorts = [0u32; 64];
     let mut p = 0;
     while p < 64 {
         let from = 1 + 50 * p;
         let to = from + 50;
         let row = &tables[from..to];
-        high[p] = key(row, 1);
-        low[p] = key(row, 7);
-        if !alone(tables, &high, &low, p) {
+        let first = key(row, 1);
+        let second = key(row, 7);
+        high[p] = first;
+        low[p] = second;
+        shorts[p] = short(first, second);
+        if !alone(tables, &high, &low, &shorts, p) {
             return false;
         }
         p += 1;

@@ -1,2 +1,3 @@
 -- Laws that the proofs of the loops share. Assumes nothing.
 pub mod Turns
+pub mod Hits

@@ -4,6 +4,7 @@ pub mod Below
 pub mod Rows
 pub mod First
 pub mod Lists
+pub mod Any
 pub mod Same
 pub mod Parts
 pub mod Verdict

@@ -4,7 +4,7 @@ ghost use Prim.Native.Nat.{ℕ, _≤_};
 ghost use lib.ListN.{getD, length, replicate};
 ghost use lib.Dec.{eqb, ltb};
 ghost use Rattle.combine.specs.Below.{allBelow, failed};
-ghost use Rattle.combine.specs.Lists.{same};
+ghost use Rattle.combine.specs.Lists.{isIn, same};
 
 // Whether all cells are zero: their bits are gathered with no early exit, so that the compiler makes the loop wide.
 pub fn all_zero(cells: &[u32]) -> bool
@@ -55,6 +55,20 @@ pub fn all_below(cells: &[u32], bound: u32) -> bool
         i += 1;
     }
     sum == 0
+}
+
+// Whether a row has the number: a count, so that the loop has no early exit and the compiler makes it wide.
+pub fn lists(row: &[u32], number: u32) -> bool
+    requires { ⌜ length (now row) ≤ 65536 ⌝ }
+    ensures { λ r. ⌜ r ≡ isIn number (now (row .entry)) ⌝ }
+{
+    let mut times: u32 = 0;
+    let mut place = 0;
+    while place < row.len() {
+        times += (number == row[place]) as u32;
+        place += 1;
+    }
+    times != 0
 }
 
 // Whether two rows of cells are the same.

@@ -15,6 +15,7 @@ use borrow.Author.Tests.{le-leb, leb-true, lt-ltb, le-ltb}
 use Rattle.combine.specs.Below.{allBelow, all-zero, all-suc, all-at, all-make, all-bad, all-cong}
 use Rattle.combine.specs.First.{firstBelow, first-zero, first-more, first-at}
 use Rattle.combine.specs.Lists.{isIn, part}
+use Rattle.combine.specs.Any.{byte-few}
 use Rattle.combine.specs.Numbers.{le-or-lt}
 use Rattle.combine.specs.Parts.{length-part}
 use Rattle.segments.specs.Free.{isFree, lowestFree}
@@ -28,7 +29,6 @@ use Rattle.free.specs.Lists.{free-rows}
 use Rattle.free.specs.Held.{HeldRows}
 use Rattle.free.specs.Run.{RunEnd}
 use Rattle.free.proofs.Cells.{lent-part}
-use Rattle.free.proofs.Counts.{byte-few}
 
 -- ---- the rows of one list more: that row stands last, and counts where it is not empty
 

@@ -13,6 +13,7 @@ use lib.ListN.{length, getD, take}
 use borrow.Author.Tests.{eq-eqb, ne-eqb, eqb-false, not-true}
 use Rattle.combine.specs.Below.{allBelow, all-at, all-make, all-bad, all-cong}
 use Rattle.combine.specs.Lists.{isIn, tab, part, any}
+use Rattle.combine.specs.Any.{not-or, not-in}
 use Rattle.placing.specs.Placing.{segment}
 use Rattle.segments.specs.Free.{SegmentRecord, SegmentOpening, recordSegments, openingSegments, isFree}
 use Rattle.tables.specs.Layout.{segmentNumber, segmentsIn, recordBase, openingBase, recordAt, recordOf, openingAt, openingOf}
@@ -24,7 +25,7 @@ use Rattle.tables.specs.OpeningFacts.{opening-not-closed}
 use Rattle.distinct.specs.ListCells.{record-held, opening-held}
 use Rattle.distinct.specs.ListFacts.{list-facts}
 use Rattle.cells.specs.Says.{recordIn, openingIn, recordSays, openingSays, houseOf}
-use Rattle.free.specs.Any.{not-or, all-join, none-tab, not-in}
+use Rattle.free.specs.Any.{all-join, none-tab}
 use Rattle.tables.specs.Again.{numbers-again}
 use Rattle.free.specs.Rows.{startOf, rowOf, part-part, take-part, start-record, start-opening, length-row, row-at}
 

@@ -149,20 +149,6 @@ fn held_rows(tables: &[u32]) -> Rows
     }
 }
 
-// Whether a row has the number: a count, so that the loop has no early exit and the compiler makes it wide.
-fn lists(row: &[u32], number: u32) -> bool
-    requires { ⌜ length (now row) ≤ 32 ⌝ }
-    ensures { λ r. ⌜ r ≡ isIn number (now (row .entry)) ⌝ }
-{
-    let mut times: u32 = 0;
-    let mut place = 0;
-    while place < row.len() {
-        times += (number == row[place]) as u32;
-        place += 1;
-    }
-    times != 0
-}
-
 // The row after this one; after the last comes the first.
 fn row_after(row: usize, rows: usize) -> usize
     requires { ⌜ (row < rows) × (rows ≤ 96) ⌝ }
@@ -207,7 +193,7 @@ pub fn lowest_free(tables: &[u32]) -> Segment
         'scan: while scanned < rows.number {
             let start = rows.starts[row];
             let count = rows.counts[row];
-            if lists(&tables[start..start + count], number) {
+            if combine::lists(&tables[start..start + count], number) {
                 number = run_end(&tables[start..start + count], number);
                 continue 'search;
             }

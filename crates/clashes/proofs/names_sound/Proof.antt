@@ -16,22 +16,27 @@ use Rattle.clashes.proofs.names_sound.Statement.{statement}
 use Rattle.clashes.proofs.names_sound.Tie as tie
 
 abbrev Inv-loop : tie.InvT-loop
-Inv-loop tables high₀ low₀ p₀ high low p = Keyed tables high low p × (allBelow p (aloneb tables) ≡ true)
+Inv-loop tables high₀ low₀ shorts₀ p₀ high low shorts p = Keyed tables high low shorts p × (allBelow p (aloneb tables) ≡ true)
 
 abbrev μ-loop : tie.MeasureT-loop
-μ-loop tables high₀ low₀ p₀ high low p = 64 - p
+μ-loop tables high₀ low₀ shorts₀ p₀ high low shorts p = 64 - p
 
 loop-holds : tie.Need-loop-holds Inv-loop μ-loop
 loop-holds c =
     let s = c .before in (
       record {
-        long = s .pre .0;
-        spelled = s .pre .1;
-        within = omega arith;
-        high-long = refl;
-        low-long = refl;
-        highs = below-none _;
-        lows = below-none _;
+        halves =
+            record {
+              long = s .pre .0;
+              spelled = s .pre .1;
+              within = omega arith;
+              high-long = refl;
+              low-long = refl;
+              highs = below-none _;
+              lows = below-none _;
+            };
+        short-long = refl;
+        short = below-none _;
       },
       all-zero _,
     )
@@ -60,14 +65,14 @@ part-row-end c = omega arith
 key-requires : tie.Need-key-requires Inv-loop μ-loop
 key-requires c κs = search needs
 
+key-requires-2 : tie.Need-key-requires-2 Inv-loop μ-loop
+key-requires-2 c κs = search needs
+
 mul-high : tie.Need-mul-high Inv-loop μ-loop
 mul-high c = omega arith
 
 array-write-high : tie.Need-array-write-high Inv-loop μ-loop
 array-write-high c = omega arith
-
-key-requires-2 : tie.Need-key-requires-2 Inv-loop μ-loop
-key-requires-2 c κs = search needs
 
 mul-low : tie.Need-mul-low Inv-loop μ-loop
 mul-low c = omega arith
@@ -75,11 +80,23 @@ mul-low c = omega arith
 array-write-low : tie.Need-array-write-low Inv-loop μ-loop
 array-write-low c = omega arith
 
+short-requires : tie.Need-short-requires Inv-loop μ-loop
+short-requires c κs = tt
+
+mul-shorts : tie.Need-mul-shorts Inv-loop μ-loop
+mul-shorts c = omega arith
+
+array-write-shorts : tie.Need-array-write-shorts Inv-loop μ-loop
+array-write-shorts c = omega arith
+
+slice-aggregate-alone : tie.Need-slice-aggregate-alone Inv-loop μ-loop
+slice-aggregate-alone c = search needs
+
 alone-requires : tie.Need-alone-requires Inv-loop μ-loop
 alone-requires c κs =
-    let l = c .before .before .before .before .before .before .loop in
-    let row = row-at (now (c .before .before .before .before .before .before .before .before .args .tables)) (l .p) in
-    keys-put _ _ _ (l .p) _ _ (l .inv .0) (omega arith) (c .before .before .before .key .ensures ∙ ap (λ (r : Record). keyOf r 0) row) (c .before .before .key2 .ensures ∙ ap (λ (r : Record). keyOf r 6) row)
+    let l = c .before .before .before .before .before .before .before .before .loop in
+    let row = row-at (now (c .before .before .before .before .before .before .before .before .before .before .args .tables)) (l .p) in
+    keys-put _ _ _ _ (l .p) _ _ _ (l .inv .0) (omega arith) (c .before .before .before .before .before .key .ensures ∙ ap (λ (r : Record). keyOf r 0) row) (c .before .before .before .before .key2 .ensures ∙ ap (λ (r : Record). keyOf r 6) row) (c .before .before .before .short .ensures)
 
 returns : tie.Need-returns Inv-loop μ-loop
 returns c = loop-false _ _ _ (omega arith) (was-false (c .if1 .taken) (c .before .alone .ensures))
@@ -91,10 +108,7 @@ loop-less : tie.Need-loop-less Inv-loop μ-loop
 loop-less c = omega arith
 
 loop-again : tie.Need-loop-again Inv-loop μ-loop
-loop-again c =
-    let l = c .before .before .before .before .before .before .before .before .loop in
-    let row = row-at (now (c .before .before .before .before .before .before .before .before .before .before .args .tables)) (l .p) in
-    (keys-put _ _ _ (l .p) _ _ (l .inv .0) (omega arith) (c .before .before .before .before .before .key .ensures ∙ ap (λ (r : Record). keyOf r 0) row) (c .before .before .before .before .key2 .ensures ∙ ap (λ (r : Record). keyOf r 6) row), all-more _ _ (l .inv .1) (was-true (c .if1 .left) (c .before .alone .ensures)))
+loop-again c = (alone-requires (c .before .before) (c .before .alone .lifetimes), all-more _ _ (c .before .before .before .before .before .before .before .before .before .before .loop .inv .1) (was-true (c .if1 .left) (c .before .alone .ensures)))
 
 returns-2 : tie.Need-returns-2 Inv-loop μ-loop
 returns-2 c = loop-true _ _ _ (omega arith) (omega arith) (c .before .loop .inv .1)
@@ -114,11 +128,15 @@ names-sound-spec =
     part-row-start
     part-row-end
     key-requires
+    key-requires-2
     mul-high
     array-write-high
-    key-requires-2
     mul-low
     array-write-low
+    short-requires
+    mul-shorts
+    array-write-shorts
+    slice-aggregate-alone
     alone-requires
     returns
     add-p

@@ -5,8 +5,8 @@ use native.Mathlib.Omega.{arith}
 use denote.Ref.{now}
 use lib.Dec.{ltb}
 use lib.ListN.{length, length-set}
+use Rattle.combine.specs.Any.{byte-few}
 use Rattle.free.specs.Held.{HeldRows}
-use Rattle.free.proofs.Counts.{byte-few}
 use Rattle.free.proofs.Search.{rows-start, rows-turn}
 use Rattle.free.proofs.held_rows.Statement.{statement}
 use Rattle.free.proofs.held_rows.Tie as tie

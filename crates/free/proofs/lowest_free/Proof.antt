@@ -95,7 +95,7 @@ part-lists-end : tie.Need-part-lists-end Inv-scan μ-scan Inv-search μ-search
 part-lists-end c = fits (c .before .before)
 
 lists-requires : tie.Need-lists-requires Inv-scan μ-scan Inv-search μ-search
-lists-requires c κs = short (c .before .before .before)
+lists-requires c κs = omega (arith, short (c .before .before .before))
 
 add-run-end : tie.Need-add-run-end Inv-scan μ-scan Inv-search μ-search
 add-run-end c = let f = ends (c .before .before .before .before .before) in omega arith

@@ -5,7 +5,7 @@ use denote.Ref.{now}
 use borrow.Author.Needs.{needs}
 use lib.Dec.{eqb}
 use lib.ListN.{length, getD}
-use Rattle.free.proofs.Counts.{byte-few}
+use Rattle.combine.specs.Any.{byte-few}
 use Rattle.free.proofs.Runs.{RunOf, run-start, run-turn, run-done}
 use Rattle.free.proofs.run_end.Statement.{statement}
 use Rattle.free.proofs.run_end.Tie as tie

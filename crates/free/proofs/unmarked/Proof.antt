@@ -9,7 +9,8 @@ use borrow.Author.Needs.{needs}
 use lib.Dec.{eqb}
 use lib.ListN.{getD}
 use Rattle.combine.specs.Below.{countBelow}
-use Rattle.free.proofs.Counts.{byte-few, count-start, count-turn}
+use Rattle.combine.specs.Any.{byte-few}
+use Rattle.free.proofs.Counts.{count-start, count-turn}
 use Rattle.free.proofs.unmarked.Statement.{statement}
 use Rattle.free.proofs.unmarked.Tie as tie
 

@@ -1,4 +1,4 @@
--- `free::lists` meets its contract: `times` is 0 exactly if none of the first `place` numbers is the one sought. Assumes nothing.
+-- `combine::lists` meets its contract: `times` is 0 exactly if none of the first `place` numbers is the one sought. Assumes nothing.
 use Prim.Native.Nat.{ℕ, _≤_, _-_}
 use mathlib.Core.Path.{_≡_, sym}
 use mathlib.Core.Bool.{Bool, not}
@@ -7,10 +7,11 @@ use denote.Ref.{now}
 use borrow.Author.Needs.{needs}
 use lib.Dec.{eqb}
 use lib.ListN.{length, getD}
 use Rattle.combine.specs.Below.{allBelow, all-zero}
-use Rattle.free.proofs.Counts.{byte-few, hits-turn, hits-done}
-use Rattle.free.proofs.lists.Statement.{statement}
-use Rattle.free.proofs.lists.Tie as tie
+use Rattle.combine.specs.Any.{byte-few}
+use Rattle.combine.proofs.Hits.{hits-turn, hits-done}
+use Rattle.combine.proofs.lists.Statement.{statement}
+use Rattle.combine.proofs.lists.Tie as tie
 
 abbrev Inv-loop : tie.InvT-loop
 Inv-loop row number times₀ place₀ times place = (place ≤ length row) × (times ≤ place) × (eqb times 0 ≡ allBelow place (λ j. not (eqb number (getD row j 0))))
