@@ -5,7 +5,6 @@ use words::Number;
 use words::Numbers;
 ghost use mathlib.Core.Path.{_≡_};
 ghost use Prim.Native.Nat.{_+_, _*_, _%_, _≤_};
-ghost use lib.ListN.{length};
 ghost use Rattle.buffers.specs.Numbers.{noNumber, oneNumber, twoNumbers};
 ghost use Rattle.buffers.specs.Buffers.{withinOf, lentOf, lended, lendLine, sumOf, sumLine, peeked, peekLine, poking, poked, pokeLine, testing, testOf};
 

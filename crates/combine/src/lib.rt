@@ -1,6 +1,6 @@
 // Loops over rows of cells that serve every crate.
 ghost use mathlib.Core.Path.{_≡_};
-ghost use Prim.Native.Nat.{ℕ, _≤_};
+ghost use Prim.Native.Nat.{_≤_};
 ghost use lib.ListN.{getD, length, replicate};
 ghost use lib.Dec.{eqb, ltb};
 ghost use Rattle.combine.specs.Below.{allBelow, failed};

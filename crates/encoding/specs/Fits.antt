@@ -5,7 +5,6 @@ use mathlib.Core.Logic.{⊎-elim}
 use mathlib.Core.Bool.{Bool, true, false, cond}
 use mathlib.Core.List.{List, [], _∷_, map}
 use native.Mathlib.Nat.{le-refl, lt-of-lt-of-le}
-use native.Mathlib.Numerals.{add-one}
 use native.Mathlib.Omega.{arith}
 use borrow.Author.Tests.{eqb-true, eq-eqb, leb-true, ltb-true, ltb-false}
 use lib.Dec.{eqb, leb, ltb, lit<}
@@ -17,7 +16,7 @@ use Rattle.combine.specs.Lists.{part}
 use Rattle.combine.specs.Parts.{length-part, getD-part}
 use Rattle.placing.specs.Placing.{segment}
 use Rattle.placing.specs.Sizes.{places, mostSegments}
-use Rattle.names.specs.Names.{follows, nameb}
+use Rattle.names.specs.Small.{name-small}
 use Rattle.tables.specs.Layout.{segmentNumber, recordBase, recordOf, recordAt, segmentsIn}
 use Rattle.tables.specs.Fields.{numberAt}
 use Rattle.tables.specs.Records.{usedb, unusedb, recordb, recordsb}
@@ -90,21 +89,6 @@ five P a b c d e (suc (suc (suc (suc zero)))) l = e
 five P a b c d e (suc (suc (suc (suc (suc j))))) l = absurd (let z : ⊥ = omega arith in z)
 
 -- ---- a name, and a list of segments
-
-follows-small : (x y : ℕ) → follows x y ≡ true → y < 64
-unfolding follows
-follows-small x y h = go (leb y 35) refl h
-  where
-    go : (b : Bool) → leb y 35 ≡ b → cond b (leb x 35) (eqb y 63) ≡ true → y < 64
-    go true e q = omega (arith, leb-true y 35 e)
-    go false e q = omega (arith, eqb-true y 63 q)
-
-name-small : (name : List ℕ) → nameb name ≡ true → (k : ℕ) → k < 12 → getD name k 63 < 64
-unfolding nameb
-name-small name ok zero l = omega (arith, leb-true (getD name 0 63) 35 (each-of _ ok .0))
-name-small name ok (suc k) l =
-    subst (λ (i : ℕ). getD name i 63 < 64) (add-one k)
-    (follows-small (getD name k 63) (getD name (k + 1) 63) (all-at (λ k. follows (getD name k 63) (getD name (k + 1) 63)) 11 (each-of _ ok .1 .0) k (omega arith)))
 
 default-le : (l : List ℕ) (k : ℕ) → getD l k 0 ≤ getD l k 63
 default-le [] k = zero-le

@@ -4,7 +4,6 @@ use answers::Refusal;
 ghost use mathlib.Core.Path.{_≡_};
 ghost use Rattle.placing.specs.Sizes.{freshSegments};
 ghost use Rattle.cells.specs.Outcomes.{outcome, freshOut};
-ghost use lib.ListN.{length};
 
 // "A fresh start gives it floor(length / 64) segments, at most 1,024"
 fn segments_in(cells: usize) -> u32

@@ -1,3 +1,4 @@
 -- Names. Assumes nothing.
 pub mod Names
 pub mod Symbols
+pub mod Small

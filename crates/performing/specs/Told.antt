@@ -40,8 +40,3 @@ module _ (s t : List ℕ) where
   pub tell-none : told Bad (lent s t) ≡ toldOf none s t
   unfolding toldOf
   tell-none = refl
-
-  pub tell-same : (y : Told) (o p : Option Call) → y ≡ toldOf p s t → p ≡ o → y ≡ toldOf o s t
-  tell-same y o p e q = e ∙ ap (λ z. toldOf z s t) q
-
-pub ruleset telling = (tell-call, tell-none)

@@ -6,11 +6,8 @@ use lines::OfThree;
 use lines::OfTwo;
 use words::Numbers;
 ghost use mathlib.Core.Path.{_≡_};
-ghost use Prim.Native.Nat.{_≤_};
-ghost use lib.ListN.{length};
 ghost use Rattle.answers.specs.Said.{said};
 ghost use Rattle.cells.specs.Outcomes.{lent};
-ghost use Rattle.words.specs.Words.{part};
 ghost use Rattle.performing.specs.Calls.{twoCall, threeCall, nameCall, namedCall, callOf, callIn};
 ghost use Rattle.performing.specs.Told.{told, toldOf, replyOf};
 

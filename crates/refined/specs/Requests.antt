@@ -3,7 +3,6 @@ use Prim.Native.Nat.{ℕ, _*_, _≤_}
 use mathlib.Core.Path.{_≡_, refl, sym, ap, ap₂, _∙_, subst}
 use mathlib.Core.Bool.{Bool, true, false}
 use mathlib.Core.Option.{Option, none}
-use mathlib.Core.List.{List}
 use lib.ListN.{length, getD, List·getD-map}
 use lib.Dec.{ltb}
 use Rattle.combine.specs.Verdict.{Verdict, refused, done, onDone, refuse_when_else_}

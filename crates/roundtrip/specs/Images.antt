@@ -1,13 +1,10 @@
 -- An image of tables gives the tables back, and tables of an image give the image back. Assumes nothing.
-use Prim.Native.Nat.{ℕ, zero, suc, _+_, _*_, _^_, _≤_, _<_}
+use Prim.Native.Nat.{ℕ, suc, _+_, _*_, _≤_, _<_}
 use mathlib.Core.Path.{_≡_, refl, sym, ap, _∙_}
-use mathlib.Core.Logic.{⊎-elim}
 use mathlib.Core.List.{List, [], _∷_, _++_, append-nil}
 use native.Mathlib.Omega.{arith}
-use lib.Dec.{lit<}
-use lib.ListN.{length, getD, take, drop, replicate, length-append, length-take, List·getD-eq-default}
-use lib.Seq.{getD-take, getD-drop, take-at, take-add, take-all}
-use Rattle.combine.specs.Numbers.{le-or-lt}
+use lib.ListN.{length, getD, take, replicate, length-append}
+use lib.Seq.{take-at, take-add, take-all}
 use Rattle.combine.specs.Lists.{part, joined, tab, tab-cong}
 use Rattle.combine.specs.Parts.{length-part}
 use Rattle.packing.specs.Packing.{packed, unpacked, rowOf, cellsOf}

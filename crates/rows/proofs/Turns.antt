@@ -7,9 +7,9 @@ use native.Mathlib.Omega.{arith}
 use lib.Arith.{digits-lt}
 use lib.ListN.{length, getD, take}
 use lib.Pow.{pow-add, pow-mono, shl-exact, shr-lt, split}
-use Rattle.packing.specs.Packing.{sum, packed}
+use Rattle.packing.specs.Packing.{sum}
 use Rattle.rows.specs.Waiting.{Narrow, Fitting, Begun, Packs}
-use Rattle.rows.specs.Longer.{sum-fewer, sum-suc, packed-suc}
+use Rattle.rows.specs.Longer.{sum-fewer, packed-suc}
 
 pow-shift : (r k b : ℕ) → r * 2 ^ k * 2 ^ b ≡ r * 2 ^ (k + b)
 pow-shift r k b = mul-assoc r (2 ^ k) (2 ^ b) ∙ ap (λ (y : ℕ). r * y) (sym (pow-add 2 k b))

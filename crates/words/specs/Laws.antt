@@ -7,12 +7,13 @@ use native.Mathlib.Omega.{arith}
 use native.Mathlib.Numerals.{add-one}
 use lib.Dec.{leb, eqb}
 use borrow.Author.Tests.{le-leb, lt-leb, eq-eqb, ne-eqb}
-use lib.ListN.{length, getD, take, drop, drop-of-length-le}
+use lib.ListN.{length, getD, drop, drop-of-length-le}
 use lib.Seq.{drop-cons, take-length}
 use Rattle.bytes.specs.Bytes.{indexOf, indexAfter, slice}
+use Rattle.names.specs.Names.{isDigit}
 use Rattle.words.specs.declared.Number.{Number}
 use Rattle.words.specs.declared.Number.the-variants as number
-use Rattle.words.specs.Words.{sameb, isDigit, digitsFrom, numberOf, wordEnd}
+use Rattle.words.specs.Words.{sameb, digitsFrom, numberOf, wordEnd}
 
 -- ---- the digits from place i on, with those before worth v
 

@@ -5,6 +5,7 @@ use mathlib.Core.List.{List, [], _∷_}
 use lib.Dec.{leb, ltb, eqb}
 use lib.ListN.{length, take, drop}
 use Rattle.bytes.specs.Bytes.{indexOf}
+use Rattle.names.specs.Names.{isDigit}
 use Rattle.words.specs.declared.Number.{Number}
 use Rattle.words.specs.declared.Number.the-variants as number
 use Rattle.words.specs.declared.NumberAt.{NumberAt}
@@ -24,9 +25,6 @@ unfoldable pub wordEnd : List ℕ → ℕ → ℕ
 wordEnd line from = from + indexOf 32 (drop from line)
 
 -- ---- "A number is decimal digits, 0 to 4294967295 (at most ten digits; leading zeros may stand)."
-
-abbrev pub isDigit : ℕ → Bool
-isDigit b = leb 48 b && leb b 57
 
 -- with the digits read so far worth v
 unfoldable pub digitsFrom : ℕ → List ℕ → Number

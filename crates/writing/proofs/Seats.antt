@@ -8,7 +8,7 @@ use lib.Dec.{leb, ltb}
 use lib.ListN.{getD}
 use borrow.Author.Tests.{le-leb, lt-leb, lt-ltb, le-ltb, not-true, not-false}
 use Rattle.combine.specs.Below.{or-left}
-use Rattle.combine.specs.Verdict.{refuse_when_else_, refused-here, went-on}
+use Rattle.combine.specs.Verdict.{refused-here, went-on}
 use Rattle.answers.specs.declared.Refusal.the-variants.{Room}
 use Rattle.placing.specs.declared.Segment.{Segment}
 use Rattle.placing.specs.declared.Position.{Position}
