@@ -2,6 +2,3 @@
 pub mod Cells
 pub mod Counts
 pub mod Marks
-pub mod Runs
-pub mod Search
-pub mod Scan

@@ -2,6 +2,3 @@
 pub mod Any
 pub mod Rows
 pub mod Lists
-pub mod Held
-pub mod Round
-pub mod Run

@@ -1,26 +1,22 @@
-// Free segments: how many there are, and the lowest. A list of segment numbers is a row of cells of the tables.
+// Free segments: how many there are. A list of segment numbers is a row of cells of the tables.
 ghost use mathlib.Core.Path.{_≡_};
 ghost use mathlib.Core.Bool.{not, _&&_, cond};
-ghost use Prim.Native.Nat.{ℕ, _+_, _<_, _≤_};
+ghost use Prim.Native.Nat.{ℕ, _<_, _≤_};
 ghost use lib.Dec.{eqb};
 ghost use lib.ListN.{getD, length};
 ghost use Rattle.combine.specs.Below.{countBelow};
 ghost use Rattle.combine.specs.Lists.{isIn};
-ghost use Rattle.placing.specs.Placing.{segment, heldOf};
-ghost use Rattle.segments.specs.Free.{isFree, freeCount, lowestFree};
+ghost use Rattle.placing.specs.Placing.{heldOf};
+ghost use Rattle.segments.specs.Free.{isFree, freeCount};
 ghost use Rattle.tables.specs.Lists.{heldIn};
 ghost use Rattle.tables.specs.Sound.{Ranged};
 ghost use Rattle.cells.specs.Says.{houseOf};
 ghost use Rattle.tables.specs.ExtentFacts.{SoundExtent};
 ghost use Rattle.free.specs.Rows.{startOf};
-ghost use Rattle.free.specs.Held.{HeldRows};
-ghost use Rattle.free.specs.Round.{wrapped};
-ghost use Rattle.free.specs.Run.{RunEnd};
 use placing::Position;
-use placing::Segment;
 
 // Where the row of list i starts: 64 lists of records, then 32 of openings.
-fn row_start(i: usize) -> usize
+pub fn row_start(i: usize) -> usize
     requires { ⌜ i < 96 ⌝ }
     ensures { λ r. ⌜ r ≡ startOf i ⌝ }
 {
@@ -42,7 +38,7 @@ fn held_by(used: u32, species: u32, begin: u32, end: u32) -> usize
 }
 
 // How many segments list i holds.
-fn held_in(tables: &[u32], i: usize) -> usize
+pub fn held_in(tables: &[u32], i: usize) -> usize
     requires { ⌜ Ranged (now tables) × (i < 96) ⌝ }
     ensures { λ r. ⌜ r ≡ heldIn (now (tables .entry)) i ⌝ }
 {
@@ -63,8 +59,6 @@ fn held_in(tables: &[u32], i: usize) -> usize
         tables[opening + 5],
     )
 }
-
-// ---- the number of free segments
 
 // Marks the numbers of a row.
 fn mark_row(row: &[u32], marks: &mut [u32; 1024])
@@ -115,92 +109,4 @@ pub fn free_count(tables: &[u32]) -> u32
     let mut marks = [0u32; 1024];
     mark_lists(tables, &mut marks);
     unmarked(&marks, tables[0])
-}
-
-// ---- the lowest free segment
-
-// The rows of the lists that hold a segment.
-struct Rows {
-    number: usize,
-    starts: [usize; 96],
-    counts: [usize; 96],
-}
-
-fn held_rows(tables: &[u32]) -> Rows
-    requires { ⌜ Ranged (now tables) ⌝ }
-    ensures { λ r. ⌜ HeldRows (now (tables .entry)) 96 (r .number) (r .starts) (r .counts) ⌝ }
-{
-    let mut starts = [0usize; 96];
-    let mut counts = [0usize; 96];
-    let mut number = 0;
-    let mut i = 0;
-    while i < 96 {
-        let count = held_in(tables, i);
-        // A row with no number is written over by the next.
-        starts[number] = row_start(i);
-        counts[number] = count;
-        number += (0 < count) as usize;
-        i += 1;
-    }
-    Rows {
-        number: number,
-        starts: starts,
-        counts: counts,
-    }
-}
-
-// The row after this one; after the last comes the first.
-fn row_after(row: usize, rows: usize) -> usize
-    requires { ⌜ (row < rows) × (rows ≤ 96) ⌝ }
-    ensures { λ r. ⌜ r ≡ wrapped rows (row + 1) ⌝ }
-{
-    if row + 1 < rows {
-        return row + 1;
-    }
-    0
-}
-
-// The number after the run of numbers, from this one on, that the row lists in rising order.
-fn run_end(row: &[u32], number: u32) -> u32
-    requires { ⌜ (length (now row) ≤ 32) × (number ≤ 1024) ⌝ }
-    ensures { λ r. ⌜ RunEnd (now (row .entry)) number r ⌝ }
-{
-    let mut next = number;
-    let mut passed = 0;
-    while passed < row.len() {
-        next += (row[passed] == next) as u32;
-        passed += 1;
-    }
-    next
-}
-
-// "A taken segment is always the lowest-numbered free one": the number of segments, where none is free.
-// A file's segments usually stand together, and the next file's row usually follows: a scan starts at the row of the last
-// mention and goes round, and a mention passes the whole run that its row lists.
-pub fn lowest_free(tables: &[u32]) -> Segment
-    requires { ⌜ Ranged (now tables) ⌝ }
-    ensures { λ r. ⌜ r ≡ segment (lowestFree (houseOf (now (tables .entry)))) ⌝ }
-{
-    let segments = tables[0];
-    let rows = held_rows(tables);
-    let mut number: u32 = 0;
-    let mut row: usize = 0;
-    let found = 'search: loop {
-        if segments <= number {
-            break 'search segments;
-        }
-        let mut scanned: usize = 0;
-        'scan: while scanned < rows.number {
-            let start = rows.starts[row];
-            let count = rows.counts[row];
-            if combine::lists(&tables[start..start + count], number) {
-                number = run_end(&tables[start..start + count], number);
-                continue 'search;
-            }
-            row = row_after(row, rows.number);
-            scanned += 1;
-        }
-        break 'search number;
-    };
-    Segment::of(found)
 }

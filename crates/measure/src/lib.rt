@@ -23,5 +23,5 @@ pub extern "C" fn dorrivand_measure_lowest_free(tables: &[u32], cells: usize) ->
     if !sound::sound(tables, cells) {
         return 0;
     }
-    free::lowest_free(tables).number()
+    lowest::lowest_free(tables).number()
 }

@@ -82,7 +82,7 @@ fn seat(tables: &[u32], opening: Opening, pointer: u32) -> Plan
     let at = place as usize;
     let segments = tables[0];
     if leaving::holds(opening) <= place {
-        let free = free::lowest_free(tables);
+        let free = lowest::lowest_free(tables);
         if segments <= free.number() {
             return Plan::No(Refusal::Room);
         }
@@ -92,7 +92,7 @@ fn seat(tables: &[u32], opening: Opening, pointer: u32) -> Plan
     if !shares(tables, opening, own) {
         return Plan::Put(own);
     }
-    let free = free::lowest_free(tables);
+    let free = lowest::lowest_free(tables);
     if segments <= free.number() {
         return Plan::No(Refusal::Room);
     }

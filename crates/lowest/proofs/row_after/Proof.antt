@@ -1,10 +1,10 @@
--- `free::row_after` meets its contract: by whether there is a row behind. Assumes nothing.
+-- `lowest::row_after` meets its contract: by whether there is a row behind. Assumes nothing.
 use mathlib.Core.Path.{sym}
 use native.Mathlib.Omega.{arith}
 use borrow.Author.Needs.{needs}
-use Rattle.free.specs.Round.{wrapped-before, wrapped-after}
-use Rattle.free.proofs.row_after.Statement.{statement}
-use Rattle.free.proofs.row_after.Tie as tie
+use Rattle.lowest.specs.Round.{wrapped-before, wrapped-after}
+use Rattle.lowest.proofs.row_after.Statement.{statement}
+use Rattle.lowest.proofs.row_after.Tie as tie
 
 add-if1 : tie.Need-add-if1
 add-if1 c = search needs

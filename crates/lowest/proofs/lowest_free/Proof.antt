@@ -1,4 +1,4 @@
--- `free::lowest_free` meets its contract: the search: no segment below `number` is free; the scan: no row scanned has `number`. Assumes nothing.
+-- `lowest::lowest_free` meets its contract: the search: no segment below `number` is free; the scan: no row scanned has `number`. Assumes nothing.
 use Prim.Native.Nat.{ℕ, _+_, _≤_, _-_}
 use mathlib.Core.Logic.{⊎-elim}
 use mathlib.Core.Path.{_≡_, refl, sym, ap, subst, _∙_}
@@ -9,10 +9,10 @@ use borrow.Author.Needs.{needs}
 use lib.ListN.{length, getD, take, drop}
 use Rattle.placing.specs.Sizes.{tablesLength}
 use Rattle.placing.specs.Placing.{segment}
-use Rattle.free.proofs.Search.{NoneFree, rows-fit, rows-lent, none-run, lowest-none, lowest-here}
-use Rattle.free.proofs.Scan.{Scanned, scan-start, scan-turn, scan-done}
-use Rattle.free.proofs.lowest_free.Statement.{statement}
-use Rattle.free.proofs.lowest_free.Tie as tie
+use Rattle.lowest.proofs.Search.{NoneFree, rows-fit, rows-lent, none-run, lowest-none, lowest-here}
+use Rattle.lowest.proofs.Scan.{Scanned, scan-start, scan-turn, scan-done}
+use Rattle.lowest.proofs.lowest_free.Statement.{statement}
+use Rattle.lowest.proofs.lowest_free.Tie as tie
 
 abbrev Inv-scan : tie.InvT-scan
 Inv-scan tables segments rows number₀ row₀ scanned₀ number row scanned = (number ≡ number₀) × Scanned tables (rows .number) (rows .starts) (rows .counts) row₀ number scanned row

@@ -14,7 +14,7 @@ use Rattle.combine.specs.Below.{all-bad, all-witness, was-true}
 use Rattle.combine.specs.Lists.{isIn}
 use Rattle.combine.specs.Any.{not-in}
 use Rattle.combine.specs.Numbers.{le-or-lt}
-use Rattle.free.specs.Run.{RunEnd}
+use Rattle.lowest.specs.Run.{RunEnd}
 
 -- ---- a number is in a row exactly if it stands somewhere in it
 

@@ -1,4 +1,4 @@
--- `free::held_rows` meets its contract: the rows are those of the first `i` lists, without the empty ones. Assumes nothing.
+-- `lowest::held_rows` meets its contract: the rows are those of the first `i` lists, without the empty ones. Assumes nothing.
 use Prim.Native.Nat.{ℕ, _≤_, _-_}
 use mathlib.Core.Path.{_≡_, refl, subst}
 use native.Mathlib.Omega.{arith}
@@ -6,10 +6,10 @@ use denote.Ref.{now}
 use lib.Dec.{ltb}
 use lib.ListN.{length, length-set}
 use Rattle.combine.specs.Any.{byte-few}
-use Rattle.free.specs.Held.{HeldRows}
-use Rattle.free.proofs.Search.{rows-start, rows-turn}
-use Rattle.free.proofs.held_rows.Statement.{statement}
-use Rattle.free.proofs.held_rows.Tie as tie
+use Rattle.lowest.specs.Held.{HeldRows}
+use Rattle.lowest.proofs.Search.{rows-start, rows-turn}
+use Rattle.lowest.proofs.held_rows.Statement.{statement}
+use Rattle.lowest.proofs.held_rows.Tie as tie
 
 abbrev Inv-loop : tie.InvT-loop
 Inv-loop tables starts₀ counts₀ number₀ i₀ starts counts number i = (i ≤ 96) × (length starts ≡ 96) × (length counts ≡ 96) × HeldRows tables i number starts counts

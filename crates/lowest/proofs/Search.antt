@@ -24,11 +24,11 @@ use Rattle.tables.specs.Lists.{heldIn}
 use Rattle.tables.specs.Sound.{Ranged}
 use Rattle.distinct.specs.ListFacts.{list-facts}
 use Rattle.cells.specs.Says.{houseOf}
 use Rattle.free.specs.Rows.{startOf, rowOf, row-inside, row-fits}
 use Rattle.free.specs.Lists.{free-rows}
-use Rattle.free.specs.Held.{HeldRows}
-use Rattle.free.specs.Run.{RunEnd}
+use Rattle.lowest.specs.Held.{HeldRows}
+use Rattle.lowest.specs.Run.{RunEnd}
 use Rattle.free.proofs.Cells.{lent-part}
 
 -- ---- the rows of one list more: that row stands last, and counts where it is not empty
 

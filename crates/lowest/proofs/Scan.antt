@@ -10,10 +10,10 @@ use Rattle.combine.specs.Lists.{isIn}
 use Rattle.segments.specs.Free.{isFree}
 use Rattle.tables.specs.Sound.{Ranged}
 use Rattle.cells.specs.Says.{houseOf}
-use Rattle.free.specs.Held.{HeldRows}
-use Rattle.free.specs.Round.{wrapped, wrapped-low, round-start, round-turn, round-all}
+use Rattle.lowest.specs.Held.{HeldRows}
+use Rattle.lowest.specs.Round.{wrapped, wrapped-low, round-start, round-turn, round-all}
 use Rattle.free.proofs.Cells.{lent-part}
-use Rattle.free.proofs.Search.{lacks, rows-free}
+use Rattle.lowest.proofs.Search.{lacks, rows-free}
 
 -- k rows are scanned, and `row` is the next; where there is no row, it is 0
 pub record Scanned (t : List ℕ) (n : ℕ) (starts counts : List ℕ) (first g k row : ℕ) : Type 0 where

@@ -1,4 +1,4 @@
--- `free::run_end` meets its contract: `next` ends the run of the first `passed` numbers. Assumes nothing.
+-- `lowest::run_end` meets its contract: `next` ends the run of the first `passed` numbers. Assumes nothing.
 use Prim.Native.Nat.{_≤_, _-_}
 use native.Mathlib.Omega.{arith}
 use denote.Ref.{now}
@@ -6,9 +6,9 @@ use borrow.Author.Needs.{needs}
 use lib.Dec.{eqb}
 use lib.ListN.{length, getD}
 use Rattle.combine.specs.Any.{byte-few}
-use Rattle.free.proofs.Runs.{RunOf, run-start, run-turn, run-done}
-use Rattle.free.proofs.run_end.Statement.{statement}
-use Rattle.free.proofs.run_end.Tie as tie
+use Rattle.lowest.proofs.Runs.{RunOf, run-start, run-turn, run-done}
+use Rattle.lowest.proofs.run_end.Statement.{statement}
+use Rattle.lowest.proofs.run_end.Tie as tie
 
 abbrev Inv-loop : tie.InvT-loop
 Inv-loop row number next₀ passed₀ next passed = (passed ≤ length row) × RunOf row number passed next
