@@ -28,9 +28,10 @@ use Rattle.deeds.specs.Deeded.{withSegments, withSegment, firstLeft}
 use Rattle.deeds.specs.Back.{OpenFile, store-back, first-back}
 use Rattle.access.specs.Used.{usedOut, used-no, used-done}
 use Rattle.access.specs.Known.{Known}
-use Rattle.writing.specs.declared.Plan.{Plan}
-use Rattle.writing.specs.declared.Plan.the-variants.{No, Drop, Put, Copy, Zero}
-use Rattle.writing.specs.Plans.{writeVerdict, Stores, preparedFor, Says, Planned, settled, Moves}
+use Rattle.plans.specs.declared.Plan.{Plan}
+use Rattle.plans.specs.declared.Plan.the-variants.{No, Drop, Put, Copy, Zero}
+use Rattle.plans.specs.Plans.{writeVerdict, Stores, preparedFor, Says, Planned}
+use Rattle.writing.specs.Settled.{settled, Moves}
 
 -- ---- the use that stores
 

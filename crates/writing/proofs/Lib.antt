@@ -1,5 +1,2 @@
-pub mod Seats
-pub mod Decides
 pub mod Carries
 pub mod Loaded
-pub mod Asks

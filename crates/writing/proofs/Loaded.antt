@@ -17,7 +17,7 @@ use Rattle.gate.specs.Gates.{reachOf}
 use Rattle.gate.specs.Passed.{Reached, reaches, reaches-not}
 use Rattle.access.specs.Known.{Known, reached-long, reached-entry, reached-fits, reached-known}
 use Rattle.access.specs.Used.{usedOut, request-used}
-use Rattle.writing.specs.Plans.{writeVerdict}
+use Rattle.plans.specs.Plans.{writeVerdict}
 
 module _ (s t : List ℕ) (u e : ℕ) (g : Gate) (eg : g ≡ reachOf (length s) t u e) where
   pub write-refused : (p n : ℕ) (why : Refusal) → g ≡ No why → outcome (Refused why) s t ≡ requestOut (uses (write p n)) s t u e

@@ -1,2 +1,2 @@
--- The call write. Assumes nothing.
-pub mod Plans
+-- What the contracts of `writing` cite. Assumes nothing.
+pub mod Settled

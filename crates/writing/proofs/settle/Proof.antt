@@ -1,7 +1,7 @@
 use borrow.Author.Needs.{needs}
 use native.Mathlib.Omega.{arith}
 use Rattle.leaving.proofs.Steps.{number-is}
-use Rattle.writing.specs.Plans.{settled}
+use Rattle.writing.specs.Settled.{settled}
 use Rattle.writing.proofs.settle.Statement.{statement}
 use Rattle.writing.proofs.settle.Tie as tie
 

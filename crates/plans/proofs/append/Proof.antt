@@ -1,7 +1,7 @@
 use borrow.Author.Needs.{needs}
-use Rattle.writing.proofs.Decides.{appends}
-use Rattle.writing.proofs.append.Statement.{statement}
-use Rattle.writing.proofs.append.Tie as tie
+use Rattle.plans.proofs.Decides.{appends}
+use Rattle.plans.proofs.append.Statement.{statement}
+use Rattle.plans.proofs.append.Tie as tie
 
 value-requires : tie.Need-value-requires
 value-requires c κs = search needs

@@ -6,25 +6,23 @@ use mathlib.Core.List.{List}
 use lib.Dec.{leb, ltb}
 use lib.ListN.{getD}
 use Rattle.combine.specs.Verdict.{Verdict, refused, done, refuse_when_else_}
-use Rattle.combine.specs.Outcome.{Outcome, outcomeOf}
 use Rattle.answers.specs.Said.{refusalNumber}
 use Rattle.placing.specs.declared.Segment.{Segment}
-use Rattle.placing.specs.Sizes.{mostHeld, greatestEnd, greatestSpecies}
-use Rattle.placing.specs.Placing.{segment, position, heldOf, listPlace}
-use Rattle.store.specs.Store.{putElement, zeroed, copied}
+use Rattle.placing.specs.Sizes.{mostHeld, greatestEnd}
+use Rattle.placing.specs.Placing.{segment, heldOf, listPlace}
+use Rattle.store.specs.Store.{zeroed, copied}
 use Rattle.rules.specs.Headings.{moved}
 use Rattle.rules.specs.Effects.{firstLeaves, stores, plain, Use, does}
 use Rattle.rules.specs.Access.{writing}
 use Rattle.segments.specs.Free.{hasRoom}
 use Rattle.segments.specs.Deeds.{takesAt, target, prepared}
 use Rattle.tables.specs.declared.Opening.{Opening}
-use Rattle.tables.specs.Layout.{segmentsIn, putOpening}
+use Rattle.tables.specs.Layout.{segmentsIn}
 use Rattle.tables.specs.Fields.{valueOf}
-use Rattle.tables.specs.Handles.{handleIn, pointed}
+use Rattle.tables.specs.Handles.{handleIn}
 use Rattle.cells.specs.Says.{openingIn, houseOf}
-use Rattle.cells.specs.Outcomes.{Lent, lent}
-use Rattle.writing.specs.declared.Plan.{Plan}
-use Rattle.writing.specs.declared.Plan.the-variants.{No, Drop, Put, Copy, Zero}
+use Rattle.plans.specs.declared.Plan.{Plan}
+use Rattle.plans.specs.declared.Plan.the-variants.{No, Drop, Put, Copy, Zero}
 
 -- the position of pointer p has a place in the list, or the next behind it
 pub record Seats (o : Opening) (p : ℕ) : Type 0 where
@@ -97,16 +95,3 @@ Says t o p verdict (Zero k g) = Zeroes t o p verdict k g
 
 pub record Planned (t : List ℕ) (o : Opening) (p : ℕ) (verdict : ℕ → Verdict Use) (plan : Plan) : Type 0 where
   pub says : Says t o p verdict plan
-
--- ---- carried out: the element goes to segment g, "v grows by 1"
-
-unfoldable pub settled : List ℕ → List ℕ → ℕ → Opening → ℕ → ℕ → Segment → Outcome Lent
-settled s t i o p n g =
-    outcomeOf (done 0) (lent (putElement s (o .species) g (position (valueOf o p)) n) (putOpening t i (pointed o p (position (valueOf o p + 1)))))
-
--- pointer p of the opening has a value
-pub record Moves (o : Opening) (p : ℕ) : Type 0 where
-  pub species : o .species ≤ greatestSpecies
-  pub known : p < 8
-  pub some : 1 ≤ valueOf o p
-  pub small : valueOf o p ≤ greatestEnd

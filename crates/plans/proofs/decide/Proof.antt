@@ -1,8 +1,8 @@
 use borrow.Author.Needs.{needs}
-use Rattle.writing.proofs.Decides.{decides, inner-seats}
+use Rattle.plans.proofs.Decides.{decides, inner-seats}
 use native.Mathlib.Omega.{arith}
-use Rattle.writing.proofs.decide.Statement.{statement}
-use Rattle.writing.proofs.decide.Tie as tie
+use Rattle.plans.proofs.decide.Statement.{statement}
+use Rattle.plans.proofs.decide.Tie as tie
 
 value-requires : tie.Need-value-requires
 value-requires c κs = search needs

@@ -23,8 +23,8 @@ use Rattle.cells.specs.Says.{openingIn, houseOf}
 use Rattle.deeds.specs.Shared.{sharesNumber, lacks-in, segment-in, shares-in}
 use Rattle.leaving.specs.Spans.{Spans, file-spans}
 use Rattle.access.specs.Known.{Known}
-use Rattle.writing.specs.declared.Plan.the-variants.{No, Put, Copy, Zero}
-use Rattle.writing.specs.Plans.{Seats, seatVerdict, Stores, Planned}
+use Rattle.plans.specs.declared.Plan.the-variants.{No, Put, Copy, Zero}
+use Rattle.plans.specs.Plans.{Seats, seatVerdict, Stores, Planned}
 
 -- a segment is free where the lowest free one is below their number
 room-is : (t : List ℕ) → hasRoom (houseOf t) ≡ ltb (lowestFree (houseOf t)) (segmentsIn t)

@@ -1,7 +1,7 @@
 use borrow.Author.Needs.{needs}
-use Rattle.writing.proofs.Asks.{shared}
-use Rattle.writing.proofs.shares.Statement.{statement}
-use Rattle.writing.proofs.shares.Tie as tie
+use Rattle.plans.proofs.Asks.{shared}
+use Rattle.plans.proofs.shares.Statement.{statement}
+use Rattle.plans.proofs.shares.Tie as tie
 
 returns : tie.Need-returns
 returns c = search shared

@@ -25,9 +25,9 @@ use Rattle.cells.specs.Says.{openingIn, houseOf}
 use Rattle.deeds.specs.Held.{place-within, place-at-end, held-behind}
 use Rattle.leaving.specs.Spans.{Spans, end-spans, end-holds}
 use Rattle.access.specs.Known.{Known}
-use Rattle.writing.specs.declared.Plan.{Plan}
-use Rattle.writing.specs.declared.Plan.the-variants.{No, Drop, Put, Copy, Zero}
-use Rattle.writing.specs.Plans.{Seats, writeVerdict, seatVerdict, appendVerdict, Stores, Planned}
+use Rattle.plans.specs.declared.Plan.{Plan}
+use Rattle.plans.specs.declared.Plan.the-variants.{No, Drop, Put, Copy, Zero}
+use Rattle.plans.specs.Plans.{Seats, writeVerdict, seatVerdict, appendVerdict, Stores, Planned}
 
 -- ---- a verdict that is the same has the same plan
 

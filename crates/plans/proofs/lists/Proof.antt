@@ -5,8 +5,8 @@ use native.Mathlib.Omega.{arith}
 use borrow.Author.Needs.{needs}
 use lib.ListN.{length}
 use Rattle.deeds.specs.Shared.{listsNumber, lists-none, lists-more, lists-hit}
-use Rattle.writing.proofs.lists.Statement.{statement}
-use Rattle.writing.proofs.lists.Tie as tie
+use Rattle.plans.proofs.lists.Statement.{statement}
+use Rattle.plans.proofs.lists.Tie as tie
 
 abbrev Inv-loop : tie.InvT-loop
 Inv-loop held list number place₀ place = (place ≤ held) × (listsNumber list place number ≡ false)

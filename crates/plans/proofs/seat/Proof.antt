@@ -1,9 +1,9 @@
 use borrow.Author.Needs.{needs}
 use native.Mathlib.Omega.{arith}
 use Rattle.leaving.proofs.Steps.{number-is}
-use Rattle.writing.proofs.Seats.{seats}
-use Rattle.writing.proofs.seat.Statement.{statement}
-use Rattle.writing.proofs.seat.Tie as tie
+use Rattle.plans.proofs.Seats.{seats}
+use Rattle.plans.proofs.seat.Statement.{statement}
+use Rattle.plans.proofs.seat.Tie as tie
 
 value-requires : tie.Need-value-requires
 value-requires c κs = search needs

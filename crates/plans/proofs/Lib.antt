@@ -1,0 +1,4 @@
+-- Laws that the proofs of the code share. Assumes nothing.
+pub mod Asks
+pub mod Seats
+pub mod Decides

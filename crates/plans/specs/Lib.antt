@@ -1,0 +1,2 @@
+-- What the contracts of `plans` cite. Assumes nothing.
+pub mod Plans

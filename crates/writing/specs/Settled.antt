@@ -1,0 +1,26 @@
+-- A plan carried out. Assumes nothing.
+use Prim.Native.Nat.{ℕ, _+_, _≤_, _<_}
+use mathlib.Core.List.{List}
+use Rattle.combine.specs.Verdict.{done}
+use Rattle.combine.specs.Outcome.{Outcome, outcomeOf}
+use Rattle.placing.specs.declared.Segment.{Segment}
+use Rattle.placing.specs.Sizes.{greatestEnd, greatestSpecies}
+use Rattle.placing.specs.Placing.{position}
+use Rattle.store.specs.Store.{putElement}
+use Rattle.tables.specs.declared.Opening.{Opening}
+use Rattle.tables.specs.Layout.{putOpening}
+use Rattle.tables.specs.Fields.{valueOf}
+use Rattle.tables.specs.Handles.{pointed}
+use Rattle.cells.specs.Outcomes.{Lent, lent}
+
+-- the element goes to segment g, "v grows by 1"
+unfoldable pub settled : List ℕ → List ℕ → ℕ → Opening → ℕ → ℕ → Segment → Outcome Lent
+settled s t i o p n g =
+    outcomeOf (done 0) (lent (putElement s (o .species) g (position (valueOf o p)) n) (putOpening t i (pointed o p (position (valueOf o p + 1)))))
+
+-- pointer p of the opening has a value
+pub record Moves (o : Opening) (p : ℕ) : Type 0 where
+  pub species : o .species ≤ greatestSpecies
+  pub known : p < 8
+  pub some : 1 ≤ valueOf o p
+  pub small : valueOf o p ≤ greatestEnd
