@@ -3,4 +3,5 @@ pub mod Digits
 pub mod Names
 pub mod Rows
 pub mod Places
+pub mod Stored
 pub mod Shorts

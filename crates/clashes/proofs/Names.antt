@@ -1,7 +1,7 @@
 -- What the keys of two records say of a clash. Assumes nothing.
 use Prim.Native.Nat.{ℕ, _+_, _-_, _≤_, _<_}
 use mathlib.Core.Path.{_≡_, sym, ap, _∙_}
-use mathlib.Core.Logic.{⊎-elim, _⊎_}
+use mathlib.Core.Logic.{⊎-elim}
 use mathlib.Core.Bool.{Bool, true, false}
 use mathlib.Core.List.{List}
 use native.Mathlib.Omega.{arith}
@@ -23,7 +23,7 @@ key-used : (r : Record) (at : ℕ) → r .used ≡ 1 → keyOf r at ≡ digits (
 unfolding keyOf
 key-used r at e = rw (ne-eqb (r .used) 0 (λ z. omega arith))
 
-key-unused : (r : Record) (at : ℕ) → r .used ≡ 0 → keyOf r at ≡ 0
+pub key-unused : (r : Record) (at : ℕ) → r .used ≡ 0 → keyOf r at ≡ 0
 unfolding keyOf
 key-unused r at e = rw (eq-eqb (r .used) 0 e)
 
