@@ -44,6 +44,11 @@ fn alike(place: usize) -> Name {
     name
 }
 
+/// Eight names, each once for every owner.
+fn shared(place: usize) -> Name {
+    short(place / 8)
+}
+
 pub fn empty() -> Vec<u32> {
     let mut tables = vec![0; TABLES];
     tables[0] = SEGMENTS;
@@ -140,6 +145,7 @@ pub fn for_decisions() -> Vec<(&'static str, Vec<u32>)> {
         ("64 records, 960 segments listed, each in the record before the last one's", {
             dealt(|place, stretch| (64 * stretch + 63 - place) as u32)
         }),
+        ("64 records, 960 segments listed, 8 names with 8 owners each", filled(64, shared, 15)),
         ("64 names alike in ten symbols", all_reading(filled(64, alike, 16))),
     ]
 }
