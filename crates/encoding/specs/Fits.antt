@@ -1,6 +1,6 @@
 -- What the image rests on: the numbers of a sound record fit its widths, and an unused record is all zero. Assumes nothing.
 use Prim.Native.Nat.{ℕ, zero, suc, _+_, _-_, _^_, _≤_, _<_, zero-le}
-use mathlib.Core.Path.{_≡_, refl, ap, subst, _∙_}
+use mathlib.Core.Path.{_≡_, refl, subst, _∙_}
 use mathlib.Core.Logic.{⊎-elim}
 use mathlib.Core.Bool.{Bool, true, false, cond}
 use mathlib.Core.List.{List, [], _∷_, map}
@@ -8,7 +8,8 @@ use native.Mathlib.Nat.{le-refl, lt-of-lt-of-le}
 use native.Mathlib.Omega.{arith}
 use borrow.Author.Tests.{eqb-true, eq-eqb, leb-true, ltb-true, ltb-false}
 use lib.Dec.{eqb, leb, ltb, lit<}
-use lib.ListN.{length, getD, List·getD-map}
+use lib.ListN.{length, getD}
+use lib.Pow.{pow-pos}
 use Rattle.combine.specs.Below.{allBelow, all-at, split-bool}
 use Rattle.combine.specs.Numbers.{le-or-lt}
 use Rattle.combine.specs.Rows.{each-of}
@@ -17,13 +18,14 @@ use Rattle.combine.specs.Parts.{length-part, getD-part}
 use Rattle.placing.specs.Placing.{segment}
 use Rattle.placing.specs.Sizes.{places, mostSegments}
 use Rattle.names.specs.Small.{name-small}
-use Rattle.tables.specs.Layout.{segmentNumber, recordBase, recordOf, recordAt, segmentsIn}
-use Rattle.tables.specs.Fields.{numberAt}
-use Rattle.tables.specs.Records.{usedb, unusedb, recordb, recordsb}
+use Rattle.tables.specs.Layout.{recordBase, recordOf, recordAt, segmentsIn}
+use Rattle.tables.specs.Records.{usedb, recordb, recordsb}
 use Rattle.tables.specs.ExtentFacts.{SoundList}
 use Rattle.tables.specs.RecordFacts.{usedb-facts}
 use Rattle.tables.specs.Sound.{Ranged}
+use Rattle.extents.specs.Numbers.{segment-number}
 use Rattle.records.specs.Unused.{unused-row}
+use Rattle.rows.specs.Waiting.{Fitting}
 use Rattle.image.specs.Image.{headWidths, recordWidths}
 
 -- 50 cells, each of its width
@@ -32,7 +34,7 @@ Fits c = (k : ℕ) → k < 50 → getD c k 0 < 2 ^ getD recordWidths k 0
 
 -- ---- the head
 
-pub head-fits : (n : ℕ) → n < 2048 → (i : ℕ) → i < length headWidths → getD (1 ∷ n ∷ 0 ∷ []) i 0 < 2 ^ getD headWidths i 0
+pub head-fits : (n : ℕ) → n < 2048 → Fitting headWidths (1 ∷ n ∷ 0 ∷ [])
 unfolding headWidths
 head-fits n h zero l = lit< tt
 head-fits n h (suc zero) l = h
@@ -95,12 +97,9 @@ default-le [] k = zero-le
 default-le (x ∷ l) zero = le-refl x
 default-le (x ∷ l) (suc k) = default-le l k
 
-number-is : (l : List ℕ) (k : ℕ) → numberAt (map segment l) k ≡ getD l k 0
-number-is l k = ap segmentNumber (List·getD-map segment l k 0)
-
 list-small : (n held : ℕ) (l : List ℕ) → n ≤ mostSegments → SoundList n held (map segment l) → (k : ℕ) → k < 32 → getD l k 0 < 1024
 list-small n held l m f k h =
-    ⊎-elim (λ p. omega (arith, number-is l k, f .unusedZero k p h)) (λ q. omega (arith, number-is l k, f .inRange k q)) (le-or-lt held k)
+    ⊎-elim (λ p. omega (arith, segment-number l k, f .unusedZero k p h)) (λ q. omega (arith, segment-number l k, f .inRange k q)) (le-or-lt held k)
 
 -- ---- a record of 50 cells
 
@@ -119,27 +118,19 @@ module _ (n : ℕ) (most : n ≤ mostSegments) (c : List ℕ) where
         segments = λ k l. omega (arith, getD-part c 18 32 k l, list-small n _ (part c 18 32) most (f .list) k l);
       }
 
-  unused-small : eqb (recordOf c .used) 0 ≡ true → unusedb (recordOf c) ≡ true → Small c
-  unfolding recordOf unusedb
-  unused-small u ok =
-      let f = each-of _ ok in
-      let g = f .1 in
-      record {
-        used = omega (arith, eqb-true (getD c 0 0) 0 u);
-        name = λ k l. omega (arith, getD-part c 1 12 k l, eqb-true (getD (part c 1 12) k 0) 0 (all-at _ 12 (f .0) k l));
-        middle =
-            five (λ j. getD c (13 + j) 0 < getD heads j 0) (omega (arith, eqb-true (getD c 13 0) 0 (g .0))) (omega (arith, eqb-true (getD c 14 0) 0 (g .1 .0)))
-            (omega (arith, eqb-true (getD c 15 0) 0 (g .1 .1 .0))) (omega (arith, eqb-true (getD c 16 0) 0 (g .1 .1 .1 .0))) (omega (arith, eqb-true (getD c 17 0) 0 (g .1 .1 .1 .1 .0)));
-        segments = λ k l. omega (arith, getD-part c 18 32 k l, number-is (part c 18 32) k, eqb-true (numberAt (map segment (part c 18 32)) k) 0 (all-at _ 32 (g .1 .1 .1 .1 .1 .0) k l));
-      }
-
-  record-fits : recordb n (recordOf c) ≡ true → Fits c
-  unfolding recordb
-  record-fits ok = small-fits c (⊎-elim (λ p. unused-small p (rw p at ok)) (λ p. used-small (rw p at ok)) (split-bool (eqb (recordOf c .used) 0)))
-
+  -- "an unused record is all zero"
   record-blank : length c ≡ 50 → recordb n (recordOf c) ≡ true → getD c 0 0 ≡ 0 → allBelow (length c) (λ k. eqb (getD c k 0) 0) ≡ true
   unfolding recordb recordOf
   record-blank l ok z = unused-row c l z ∙ (rw (eq-eqb (getD c 0 0) 0 z) at ok)
+
+  record-fits : length c ≡ 50 → recordb n (recordOf c) ≡ true → Fits c
+  unfolding recordb recordOf
+  record-fits l ok = ⊎-elim unused (λ p. small-fits c (used-small (rw p at ok))) (split-bool (eqb (getD c 0 0) 0))
+    where
+      unused : eqb (getD c 0 0) 0 ≡ true → Fits c
+      unused p k h =
+          let z = eqb-true (getD c k 0) 0 (all-at _ (length c) (record-blank l ok (eqb-true (getD c 0 0) 0 p)) k (omega arith)) in
+          omega (arith, z, pow-pos (getD recordWidths k 0))
 
 pub record Writable (c : List ℕ) : Type 0 where
   pub fits : Fits c
@@ -152,12 +143,11 @@ module _ (t : List ℕ) (w : Ranged t) (p : ℕ) (l : p < places) where
   unfolding recordsb recordAt
   sound = all-at _ places (each-of _ (w .1) .0) p l
 
+  long : length (part t (recordBase p) 50) ≡ 50
+  long = length-part t (recordBase p) 50 (omega (arith, w .0))
+
   pub records-fit : Fits (part t (recordBase p) 50)
-  records-fit = record-fits (segmentsIn t) (w .3) (part t (recordBase p) 50) sound
+  records-fit = record-fits (segmentsIn t) (w .3) (part t (recordBase p) 50) long sound
 
   pub records-writable : Writable (part t (recordBase p) 50)
-  records-writable =
-      record {
-        fits = records-fit;
-        blank = record-blank (segmentsIn t) (w .3) (part t (recordBase p) 50) (length-part t (recordBase p) 50 (omega (arith, w .0))) sound;
-      }
+  records-writable = record { fits = records-fit; blank = record-blank (segmentsIn t) (w .3) (part t (recordBase p) 50) long sound }

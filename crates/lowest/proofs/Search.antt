@@ -27,7 +27,7 @@ use Rattle.cells.specs.Says.{houseOf}
 use Rattle.free.specs.Rows.{startOf, rowOf, row-inside, row-fits}
 use Rattle.free.specs.Lists.{free-rows}
 use Rattle.lowest.specs.Held.{HeldRows}
-use Rattle.lowest.specs.Run.{RunEnd}
+use Rattle.lowest.specs.Run.{runEnd, run-each}
 use Rattle.free.proofs.Cells.{lent-part}
 
 -- ---- the rows of one list more: that row stands last, and counts where it is not empty
@@ -112,8 +112,8 @@ module _ (t : List ℕ) (w : Ranged t) (n : ℕ) (starts counts : List ℕ) (h :
       rows-free g ∙ all-bad _ n q l (ap not (ap (isIn g) (sym (lent-part t (getD starts q 0) (getD counts q 0))) ∙ e))
 
   -- the run that row q lists, as the code lends it
-  pub none-run : (s q r : ℕ) → q < n → NoneFree t s → RunEnd (take (getD starts q 0 + getD counts q 0 - getD starts q 0) (drop (getD starts q 0) t)) s r → NoneFree t r
-  none-run s q r l m e g h = ⊎-elim (λ a. rows-hit g q l (e .each g a h)) (m g) (le-or-lt s g)
+  pub none-run : (s q r : ℕ) → q < n → NoneFree t s → r ≡ runEnd (take (getD starts q 0 + getD counts q 0 - getD starts q 0) (drop (getD starts q 0) t)) s → NoneFree t r
+  none-run s q r l m e g h = ⊎-elim (λ a. rows-hit g q l (run-each _ s g a (rw e at h))) (m g) (le-or-lt s g)
 
 -- ---- the lowest free segment
 

@@ -8,7 +8,7 @@ ghost use Rattle.tables.specs.Sound.{Ranged};
 ghost use Rattle.cells.specs.Says.{houseOf};
 ghost use Rattle.lowest.specs.Held.{HeldRows};
 ghost use Rattle.lowest.specs.Round.{wrapped};
-ghost use Rattle.lowest.specs.Run.{RunEnd};
+ghost use Rattle.lowest.specs.Run.{runEnd};
 use placing::Segment;
 
 // The rows of the lists that hold a segment.
@@ -55,7 +55,7 @@ fn row_after(row: usize, rows: usize) -> usize
 // The number after the run of numbers, from this one on, that the row lists in rising order.
 fn run_end(row: &[u32], number: u32) -> u32
     requires { ⌜ (length (now row) ≤ 32) × (number ≤ 1024) ⌝ }
-    ensures { λ r. ⌜ RunEnd (now (row .entry)) number r ⌝ }
+    ensures { λ r. ⌜ r ≡ runEnd (now (row .entry)) number ⌝ }
 {
     let mut next = number;
     let mut passed = 0;

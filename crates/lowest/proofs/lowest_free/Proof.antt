@@ -9,6 +9,7 @@ use borrow.Author.Needs.{needs}
 use lib.ListN.{length, getD, take, drop}
 use Rattle.placing.specs.Sizes.{tablesLength}
 use Rattle.placing.specs.Placing.{segment}
+use Rattle.lowest.proofs.Runs.{run-less}
 use Rattle.lowest.proofs.Search.{NoneFree, rows-fit, rows-lent, none-run, lowest-none, lowest-here}
 use Rattle.lowest.proofs.Scan.{Scanned, scan-start, scan-turn, scan-done}
 use Rattle.lowest.proofs.lowest_free.Statement.{statement}
@@ -119,7 +120,7 @@ run-end-requires c κs =
 
 search-less : tie.Need-search-less Inv-scan μ-scan Inv-search μ-search
 search-less c =
-    let past = c .run-end .ensures .past (sym (c .before .before .before .lists .ensures) ∙ c .before .before .if2 .taken) in
+    let past = run-less _ _ _ (c .run-end .ensures) (sym (c .before .before .before .lists .ensures) ∙ c .before .before .if2 .taken) in
     omega arith
 
 search-again : tie.Need-search-again Inv-scan μ-scan Inv-search μ-search
