@@ -17,7 +17,7 @@ pub extern "C" fn dorrivand_new(
 ) -> u64
     ensures { λ r. ⌜ handed r (lent (now (store .entry)) (now (tables .exit))) ≡ handing (requestOut (opens (call.new species)) (now (store .entry)) (now (tables .entry)) user entry) ⌝ }
 {
-    pack(opening_calls::open_new(store, tables, user, entry, species))
+    pack(call_open::open_new(store, tables, user, entry, species))
 }
 
 #[no_mangle]
@@ -30,7 +30,7 @@ pub extern "C" fn dorrivand_work(
 ) -> u64
     ensures { λ r. ⌜ handed r (lent (now (store .entry)) (now (tables .exit))) ≡ handing (requestOut (opens (call.work (now (name .entry)))) (now (store .entry)) (now (tables .entry)) user entry) ⌝ }
 {
-    pack(opening_calls::open_work(store, tables, user, entry, name))
+    pack(call_open::open_work(store, tables, user, entry, name))
 }
 
 #[no_mangle]
@@ -43,7 +43,7 @@ pub extern "C" fn dorrivand_read(
 ) -> u64
     ensures { λ r. ⌜ handed r (lent (now (store .entry)) (now (tables .exit))) ≡ handing (requestOut (opens (call.read (now (name .entry)))) (now (store .entry)) (now (tables .entry)) user entry) ⌝ }
 {
-    pack(opening_calls::open_read(store, tables, user, entry, name))
+    pack(call_open::open_read(store, tables, user, entry, name))
 }
 
 #[no_mangle]
@@ -56,26 +56,26 @@ pub extern "C" fn dorrivand_rename(
 ) -> u64
     ensures { λ r. ⌜ handed r (lent (now (store .entry)) (now (tables .exit))) ≡ handing (requestOut (uses (call.rename (now (name .entry)))) (now (store .entry)) (now (tables .entry)) user entry) ⌝ }
 {
-    pack(rename::rename(store, tables, user, entry, name))
+    pack(call_rename::rename(store, tables, user, entry, name))
 }
 
 #[no_mangle]
 pub extern "C" fn dorrivand_close(store: &[u32], tables: &mut [u32], user: u32, entry: u32) -> u64
     ensures { λ r. ⌜ handed r (lent (now (store .entry)) (now (tables .exit))) ≡ handing (requestOut (closes false) (now (store .entry)) (now (tables .entry)) user entry) ⌝ }
 {
-    pack(closing_calls::close(store, tables, user, entry, false))
+    pack(call_close::close(store, tables, user, entry, false))
 }
 
 #[no_mangle]
 pub extern "C" fn dorrivand_public(store: &[u32], tables: &mut [u32], user: u32, entry: u32) -> u64
     ensures { λ r. ⌜ handed r (lent (now (store .entry)) (now (tables .exit))) ≡ handing (requestOut (closes true) (now (store .entry)) (now (tables .entry)) user entry) ⌝ }
 {
-    pack(closing_calls::close(store, tables, user, entry, true))
+    pack(call_close::close(store, tables, user, entry, true))
 }
 
 #[no_mangle]
 pub extern "C" fn dorrivand_abandon(store: &[u32], tables: &mut [u32], user: u32, entry: u32) -> u64
     ensures { λ r. ⌜ handed r (lent (now (store .entry)) (now (tables .exit))) ≡ handing (requestOut abandons (now (store .entry)) (now (tables .entry)) user entry) ⌝ }
 {
-    pack(closing_calls::abandon(store, tables, user, entry))
+    pack(call_close::abandon(store, tables, user, entry))
 }

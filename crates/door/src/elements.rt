@@ -10,7 +10,7 @@ ghost use Rattle.door.specs.Handed.{handed, handing};
 pub extern "C" fn dorrivand_reset(store: &[u32], tables: &mut [u32], user: u32, entry: u32) -> u64
     ensures { λ r. ⌜ handed r (lent (now (store .entry)) (now (tables .exit))) ≡ handing (requestOut (uses call.reset) (now (store .entry)) (now (tables .entry)) user entry) ⌝ }
 {
-    pack(pointing::reset(store, tables, user, entry))
+    pack(call_pointers::reset(store, tables, user, entry))
 }
 
 #[no_mangle]
@@ -23,7 +23,7 @@ pub extern "C" fn dorrivand_pointer(
 ) -> u64
     ensures { λ r. ⌜ handed r (lent (now (store .entry)) (now (tables .exit))) ≡ handing (requestOut (uses (call.newPointer pointer)) (now (store .entry)) (now (tables .entry)) user entry) ⌝ }
 {
-    pack(pointing::new_pointer(store, tables, user, entry, pointer))
+    pack(call_pointers::new_pointer(store, tables, user, entry, pointer))
 }
 
 #[no_mangle]
@@ -36,7 +36,7 @@ pub extern "C" fn dorrivand_delete(
 ) -> u64
     ensures { λ r. ⌜ handed r (lent (now (store .entry)) (now (tables .exit))) ≡ handing (requestOut (uses (call.deletePointer pointer)) (now (store .entry)) (now (tables .entry)) user entry) ⌝ }
 {
-    pack(pointing::delete_pointer(store, tables, user, entry, pointer))
+    pack(call_pointers::delete_pointer(store, tables, user, entry, pointer))
 }
 
 #[no_mangle]
@@ -50,7 +50,7 @@ pub extern "C" fn dorrivand_write(
 ) -> u64
     ensures { λ r. ⌜ handed r (lent (now (store .exit)) (now (tables .exit))) ≡ handing (requestOut (uses (call.write pointer number)) (now (store .entry)) (now (tables .entry)) user entry) ⌝ }
 {
-    pack(writing::write(store, tables, user, entry, pointer, number))
+    pack(call_write::write(store, tables, user, entry, pointer, number))
 }
 
 #[no_mangle]
@@ -63,7 +63,7 @@ pub extern "C" fn dorrivand_next(
 ) -> u64
     ensures { λ r. ⌜ handed r (lent (now (store .entry)) (now (tables .exit))) ≡ handing (requestOut (uses (call.next pointer)) (now (store .entry)) (now (tables .entry)) user entry) ⌝ }
 {
-    pack(access::next(store, tables, user, entry, pointer))
+    pack(call_next_prev::next(store, tables, user, entry, pointer))
 }
 
 #[no_mangle]
@@ -76,5 +76,5 @@ pub extern "C" fn dorrivand_prev(
 ) -> u64
     ensures { λ r. ⌜ handed r (lent (now (store .entry)) (now (tables .exit))) ≡ handing (requestOut (uses (call.prev pointer)) (now (store .entry)) (now (tables .entry)) user entry) ⌝ }
 {
-    pack(access::prev(store, tables, user, entry, pointer))
+    pack(call_next_prev::prev(store, tables, user, entry, pointer))
 }

@@ -10,35 +10,35 @@ ghost use Rattle.door.specs.Handed.{handed, handing};
 pub extern "C" fn dorrivand_species(store: &[u32], tables: &[u32], user: u32, entry: u32) -> u64
     ensures { λ r. ⌜ handed r (lent (now (store .entry)) (now (tables .entry))) ≡ handing (requestOut (uses call.askSpecies) (now (store .entry)) (now (tables .entry)) user entry) ⌝ }
 {
-    pack(inquiries::species(store, tables, user, entry))
+    pack(call_ask::species(store, tables, user, entry))
 }
 
 #[no_mangle]
 pub extern "C" fn dorrivand_claim(store: &[u32], tables: &[u32], user: u32, entry: u32) -> u64
     ensures { λ r. ⌜ handed r (lent (now (store .entry)) (now (tables .entry))) ≡ handing (requestOut (uses call.askClaim) (now (store .entry)) (now (tables .entry)) user entry) ⌝ }
 {
-    pack(inquiries::claim(store, tables, user, entry))
+    pack(call_ask::claim(store, tables, user, entry))
 }
 
 #[no_mangle]
 pub extern "C" fn dorrivand_permit(store: &[u32], tables: &[u32], user: u32, entry: u32) -> u64
     ensures { λ r. ⌜ handed r (lent (now (store .entry)) (now (tables .entry))) ≡ handing (requestOut (uses call.askPermit) (now (store .entry)) (now (tables .entry)) user entry) ⌝ }
 {
-    pack(inquiries::permit(store, tables, user, entry))
+    pack(call_ask::permit(store, tables, user, entry))
 }
 
 #[no_mangle]
 pub extern "C" fn dorrivand_begin(store: &[u32], tables: &[u32], user: u32, entry: u32) -> u64
     ensures { λ r. ⌜ handed r (lent (now (store .entry)) (now (tables .entry))) ≡ handing (requestOut (uses call.askBegin) (now (store .entry)) (now (tables .entry)) user entry) ⌝ }
 {
-    pack(inquiries::begin(store, tables, user, entry))
+    pack(call_ask::begin(store, tables, user, entry))
 }
 
 #[no_mangle]
 pub extern "C" fn dorrivand_end(store: &[u32], tables: &[u32], user: u32, entry: u32) -> u64
     ensures { λ r. ⌜ handed r (lent (now (store .entry)) (now (tables .entry))) ≡ handing (requestOut (uses call.askEnd) (now (store .entry)) (now (tables .entry)) user entry) ⌝ }
 {
-    pack(inquiries::end(store, tables, user, entry))
+    pack(call_ask::end(store, tables, user, entry))
 }
 
 #[no_mangle]
@@ -51,7 +51,7 @@ pub extern "C" fn dorrivand_symbol(
 ) -> u64
     ensures { λ r. ⌜ handed r (lent (now (store .entry)) (now (tables .entry))) ≡ handing (requestOut (uses (call.askSymbol k)) (now (store .entry)) (now (tables .entry)) user entry) ⌝ }
 {
-    pack(inquiries::symbol(store, tables, user, entry, k))
+    pack(call_ask::symbol(store, tables, user, entry, k))
 }
 
 #[no_mangle]
@@ -64,5 +64,5 @@ pub extern "C" fn dorrivand_value(
 ) -> u64
     ensures { λ r. ⌜ handed r (lent (now (store .entry)) (now (tables .entry))) ≡ handing (requestOut (uses (call.askValue pointer)) (now (store .entry)) (now (tables .entry)) user entry) ⌝ }
 {
-    pack(inquiries::value(store, tables, user, entry, pointer))
+    pack(call_ask::value(store, tables, user, entry, pointer))
 }

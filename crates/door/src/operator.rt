@@ -8,26 +8,26 @@ ghost use Rattle.door.specs.Handed.{handed, handing};
 pub extern "C" fn dorrivand_fresh(store: &[u32], tables: &mut [u32]) -> u64
     ensures { λ r. ⌜ handed r (lent (now (store .entry)) (now (tables .exit))) ≡ handing (freshOut (now (store .entry)) (now (tables .entry))) ⌝ }
 {
-    pack(fresh::fresh(store, tables))
+    pack(call_fresh::fresh(store, tables))
 }
 
 #[no_mangle]
 pub extern "C" fn dorrivand_save(store: &[u32], tables: &[u32], image: &mut [u32]) -> u64
     ensures { λ r. ⌜ handed r (saved (now (store .entry)) (now (tables .entry)) (now (image .exit))) ≡ handing (saveOut (now (store .entry)) (now (tables .entry)) (now (image .entry))) ⌝ }
 {
-    pack(saving::save(store, tables, image))
+    pack(call_save::save(store, tables, image))
 }
 
 #[no_mangle]
 pub extern "C" fn dorrivand_load(store: &[u32], tables: &mut [u32], image: &[u32]) -> u64
     ensures { λ r. ⌜ handed r (lent (now (store .entry)) (now (tables .exit))) ≡ handing (loadOut (now (store .entry)) (now (tables .entry)) (now (image .entry))) ⌝ }
 {
-    pack(loading::load(store, tables, image))
+    pack(call_load::load(store, tables, image))
 }
 
 #[no_mangle]
 pub extern "C" fn dorrivand_free(store: &[u32], tables: &[u32], user: u32) -> u64
     ensures { λ r. ⌜ handed r (lent (now (store .entry)) (now (tables .entry))) ≡ handing (freeOut (now (store .entry)) (now (tables .entry)) user) ⌝ }
 {
-    pack(counting::free_segments(store, tables, user))
+    pack(call_count::free_segments(store, tables, user))
 }

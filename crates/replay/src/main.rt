@@ -1,7 +1,7 @@
 // Reads a history from standard input, of any length, and writes the answers: input and output alone, for what a line means stands in `desk`.
+use history_calls::Reply;
 use libc::STDIN_FILENO;
 use libc::STDOUT_FILENO;
-use performing::Reply;
 
 // The text: first the answers that are not written yet, from 65,536 on the line that is being read.
 // How much stands in both, and how many cells of each buffer are lent.
@@ -91,21 +91,21 @@ fn answer(
     lengths: [u32; 6],
     text: &[u8],
     n: usize,
-) -> buffers::Answered {
+) -> history_buffers::Answered {
     if 272 < n {
-        return buffers::Answered {
+        return history_buffers::Answered {
             reply: Reply::Bad,
             lengths,
         };
     }
     let to = 65536 + n;
     if text.len() < to {
-        return buffers::Answered {
+        return history_buffers::Answered {
             reply: Reply::Bad,
             lengths,
         };
     }
-    desk::answer(store, tables, images, lengths, &text[65536..to])
+    history_desk::answer(store, tables, images, lengths, &text[65536..to])
 }
 
 // One byte of input: kept in the line, or the line's end.

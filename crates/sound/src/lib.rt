@@ -26,11 +26,11 @@ pub fn sound(tables: &[u32], cells: usize) -> bool
     if !number_sound(segments, cells) {
         return false;
     }
-    if !records::records_sound(tables, segments) {
+    if !sound_records::records_sound(tables, segments) {
         return false;
     }
-    if !openings::openings_sound(tables) {
+    if !sound_openings::openings_sound(tables) {
         return false;
     }
-    distinct::distinct(tables)
+    sound_lists::distinct(tables)
 }

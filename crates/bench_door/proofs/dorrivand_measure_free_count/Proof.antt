@@ -1,0 +1,22 @@
+-- `measure::dorrivand_measure_free_count` meets its contract: sound tables are in range. Assumes nothing.
+use Rattle.combine.specs.Below.{was-true}
+use Rattle.tables.specs.Sound.{ranged-of}
+use borrow.Author.Needs.{needs}
+use Rattle.bench_door.proofs.dorrivand_measure_free_count.Statement.{statement}
+use Rattle.bench_door.proofs.dorrivand_measure_free_count.Tie as tie
+
+sound-requires : tie.Need-sound-requires
+sound-requires c κs = search needs
+
+returns : tie.Need-returns
+returns c = search needs
+
+free-count-requires : tie.Need-free-count-requires
+free-count-requires c κs = ranged-of _ _ (was-true (c .if1 .left) (c .before .sound .ensures))
+
+returns-2 : tie.Need-returns-2
+returns-2 c = search needs
+
+pub dorrivand-measure-free-count-spec : {M : Type 1} → statement M
+dorrivand-measure-free-count-spec =
+    tie.close (tie.spec sound-requires returns free-count-requires returns-2)

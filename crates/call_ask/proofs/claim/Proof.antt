@@ -1,0 +1,46 @@
+-- `inquiries::claim` meets its contract. Assumes nothing.
+use borrow.Author.Needs.{needs}
+use Rattle.call_ask.proofs.Laws.{within, inquiring}
+use Rattle.call_ask.proofs.claim.Statement.{statement}
+use Rattle.call_ask.proofs.claim.Tie as tie
+
+reach-requires : tie.Need-reach-requires
+reach-requires c κs = search needs
+
+enum-known-reached : tie.Need-enum-known-reached
+enum-known-reached c = search needs
+
+enum-known-reached-2 : tie.Need-enum-known-reached-2
+enum-known-reached-2 c = search needs
+
+field-requires : tie.Need-field-requires
+field-requires c κs = search within
+
+field-requires-2 : tie.Need-field-requires-2
+field-requires-2 c κs = search within
+
+field-requires-3 : tie.Need-field-requires-3
+field-requires-3 c κs = search within
+
+claimed-requires : tie.Need-claimed-requires
+claimed-requires c κs = search inquiring
+
+returns : tie.Need-returns
+returns c = search inquiring
+
+returns-2 : tie.Need-returns-2
+returns-2 c = search inquiring
+
+pub claim-spec : {M : Type 1} → statement M
+claim-spec =
+    tie.close
+    (tie.spec
+    reach-requires
+    enum-known-reached
+    enum-known-reached-2
+    field-requires
+    field-requires-2
+    field-requires-3
+    claimed-requires
+    returns
+    returns-2)

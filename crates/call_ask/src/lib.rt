@@ -1,0 +1,126 @@
+// The inquiries about an open file.
+use answers::Answer;
+use answers::Refusal;
+use gate::Gate;
+use placing::Position;
+ghost use mathlib.Core.Path.{_≡_};
+ghost use Prim.Native.Nat.{_<_};
+ghost use lib.ListN.{length};
+ghost use Rattle.placing.specs.Sizes.{entries, tablesLength};
+ghost use Rattle.placing.specs.Placing.{claimOf};
+ghost use Rattle.rules.specs.Calls.{uses};
+ghost use Rattle.rules.specs.Calls as call;
+ghost use Rattle.tables.specs.ExtentFacts.{SoundExtent};
+ghost use Rattle.cells.specs.Outcomes.{outcome, requestOut};
+ghost use Rattle.gate.specs.Gates.{reachOf};
+ghost use Rattle.call_ask.specs.Told.{fieldAt, told};
+
+// A cell of an opening, by its number of 56.
+fn field(tables: &[u32], at: usize, number: usize) -> u32
+    requires { ⌜ (length (now tables) ≡ tablesLength) × (at < entries) × (number < 56) ⌝ }
+    ensures { λ r. ⌜ r ≡ fieldAt (now (tables .entry)) at number ⌝ }
+{
+    tables[3201 + 56 * at + number]
+}
+
+// An inquiry that one cell of the opening answers.
+fn tell(cells: usize, tables: &[u32], user: u32, entry: u32, number: usize) -> Answer
+    requires { ⌜ number < 56 ⌝ }
+    ensures { λ r. ⌜ r ≡ told (now (tables .entry)) number (reachOf cells (now (tables .entry)) user entry) ⌝ }
+{
+    let reached = gate::reach(cells, tables, user, entry);
+    match reached {
+        Gate::No(why) => Answer::Refused(why),
+        Gate::At(at) => Answer::Done(field(tables, at, number)),
+    }
+}
+
+// The claim, of a sound species, begin and end as the cells have them.
+fn claimed(species: u32, begin: u32, end: u32) -> u32
+    requires { ⌜ SoundExtent species begin end ⌝ }
+    ensures { λ r. ⌜ r ≡ claimOf species begin end ⌝ }
+{
+    placing::claim(species, Position::of(begin), Position::of(end))
+}
+
+// "Inquiries: species, claim, work permit (1 or 0), symbol k of the name (k from 0; 63 for k of 12 or more), begin, end, value
+// of a pointer"
+
+pub fn species(store: &[u32], tables: &[u32], user: u32, entry: u32) -> Answer
+    ensures { λ r. ⌜ outcome r (now (store .entry)) (now (tables .entry)) ≡ requestOut (uses call.askSpecies) (now (store .entry)) (now (tables .entry)) user entry ⌝ }
+{
+    tell(store.len(), tables, user, entry, 3)
+}
+
+// "The claim is the number of positions from b to the end of the last held stretch, 0 for an empty file."
+pub fn claim(store: &[u32], tables: &[u32], user: u32, entry: u32) -> Answer
+    ensures { λ r. ⌜ outcome r (now (store .entry)) (now (tables .entry)) ≡ requestOut (uses call.askClaim) (now (store .entry)) (now (tables .entry)) user entry ⌝ }
+{
+    let reached = gate::reach(store.len(), tables, user, entry);
+    match reached {
+        Gate::No(why) => Answer::Refused(why),
+        Gate::At(at) => {
+            let species = field(tables, at, 3);
+            let begin = field(tables, at, 4);
+            let end = field(tables, at, 5);
+            Answer::Done(claimed(species, begin, end))
+        }
+    }
+}
+
+// "work permit (1 or 0)"
+pub fn permit(store: &[u32], tables: &[u32], user: u32, entry: u32) -> Answer
+    ensures { λ r. ⌜ outcome r (now (store .entry)) (now (tables .entry)) ≡ requestOut (uses call.askPermit) (now (store .entry)) (now (tables .entry)) user entry ⌝ }
+{
+    tell(store.len(), tables, user, entry, 2)
+}
+
+// "symbol k of the name (k from 0; 63 for k of 12 or more)"
+pub fn symbol(store: &[u32], tables: &[u32], user: u32, entry: u32, k: u32) -> Answer
+    ensures { λ r. ⌜ outcome r (now (store .entry)) (now (tables .entry)) ≡ requestOut (uses (call.askSymbol k)) (now (store .entry)) (now (tables .entry)) user entry ⌝ }
+{
+    let reached = gate::reach(store.len(), tables, user, entry);
+    match reached {
+        Gate::No(why) => Answer::Refused(why),
+        Gate::At(at) => {
+            if 11 < k {
+                return Answer::Done(63);
+            }
+            let number = 12 + k as usize;
+            Answer::Done(field(tables, at, number))
+        }
+    }
+}
+
+pub fn begin(store: &[u32], tables: &[u32], user: u32, entry: u32) -> Answer
+    ensures { λ r. ⌜ outcome r (now (store .entry)) (now (tables .entry)) ≡ requestOut (uses call.askBegin) (now (store .entry)) (now (tables .entry)) user entry ⌝ }
+{
+    tell(store.len(), tables, user, entry, 4)
+}
+
+pub fn end(store: &[u32], tables: &[u32], user: u32, entry: u32) -> Answer
+    ensures { λ r. ⌜ outcome r (now (store .entry)) (now (tables .entry)) ≡ requestOut (uses call.askEnd) (now (store .entry)) (now (tables .entry)) user entry ⌝ }
+{
+    tell(store.len(), tables, user, entry, 5)
+}
+
+// "value of a pointer"; "not a pointer of the file" is 4.
+pub fn value(store: &[u32], tables: &[u32], user: u32, entry: u32, pointer: u32) -> Answer
+    ensures { λ r. ⌜ outcome r (now (store .entry)) (now (tables .entry)) ≡ requestOut (uses (call.askValue pointer)) (now (store .entry)) (now (tables .entry)) user entry ⌝ }
+{
+    let reached = gate::reach(store.len(), tables, user, entry);
+    match reached {
+        Gate::No(why) => Answer::Refused(why),
+        Gate::At(at) => {
+            if 7 < pointer {
+                return Answer::Refused(Refusal::Pointer);
+            }
+            let number = 4 + pointer as usize;
+            let found = field(tables, at, number);
+            if found == 0 {
+                return Answer::Refused(Refusal::Pointer);
+            }
+            Answer::Done(found)
+        }
+    }
+}

@@ -1,0 +1,47 @@
+// The operator's load.
+use answers::Answer;
+use answers::Refusal;
+ghost use mathlib.Core.Path.{_≡_};
+ghost use Prim.Native.Nat.{_≤_};
+ghost use lib.ListN.{length, replicate};
+ghost use Rattle.placing.specs.Sizes.{segmentCells, tablesLength};
+ghost use Rattle.image.specs.Image.{form1, imageLength};
+ghost use Rattle.cells.specs.Outcomes.{outcome, loadOut};
+
+// The image is decoded beside the tables and judged there: no cell of the tables changes before the verdict.
+fn judged(store: &[u32], tables: &mut [u32], image: &[u32], beside: &mut [u32]) -> Answer
+    requires { ⌜ (length (now tables) ≡ tablesLength) × (segmentCells ≤ length (now store)) ⌝ }
+    requires { ⌜ (length (now image) ≡ imageLength form1) × (now beside ≡ replicate tablesLength 0) ⌝ }
+    ensures { λ r. ⌜ outcome r (now (store .entry)) (now (tables .exit)) ≡ loadOut (now (store .entry)) (now (tables .entry)) (now (image .entry)) ⌝ }
+{
+    let head = image_code::take_head(&image[0..1]);
+    if head[0] != 1 {
+        return Answer::Refused(Refusal::Image);
+    }
+    if head[2] != 0 {
+        return Answer::Refused(Refusal::Image);
+    }
+    image_code::take_image(image, beside);
+    if !sound::sound(beside, store.len()) {
+        return Answer::Refused(Refusal::Image);
+    }
+    combine::copy_cells(beside, tables);
+    Answer::Done(0)
+}
+
+// "Save and load: 20, then 22." "A fresh start and a load don't look at what the tables held, only at their length and the store's."
+pub fn load(store: &[u32], tables: &mut [u32], image: &[u32]) -> Answer
+    ensures { λ r. ⌜ outcome r (now (store .entry)) (now (tables .exit)) ≡ loadOut (now (store .entry)) (now (tables .entry)) (now (image .entry)) ⌝ }
+{
+    if tables.len() != 4993 {
+        return Answer::Refused(Refusal::Tables);
+    }
+    if store.len() < 64 {
+        return Answer::Refused(Refusal::Tables);
+    }
+    if image.len() != 897 {
+        return Answer::Refused(Refusal::Image);
+    }
+    let mut beside = [0u32; 4993];
+    judged(store, tables, image, &mut beside)
+}

@@ -1,0 +1,94 @@
+// The call `write`: a plan is decided, and carried out.
+ghost use mathlib.Core.Path.{_≡_};
+ghost use Prim.Native.Nat.{_+_, _*_, _≤_, _<_};
+ghost use lib.ListN.{length};
+ghost use Rattle.placing.specs.Sizes.{segmentCells, tablesLength, entries};
+ghost use Rattle.rules.specs.Calls.{uses, write};
+ghost use Rattle.tables.specs.Layout.{segmentsIn};
+ghost use Rattle.cells.specs.Outcomes.{outcome, requestOut};
+ghost use Rattle.call_next_prev.specs.Known.{Known};
+ghost use Rattle.call_next_prev.specs.Used.{usedOut};
+ghost use Rattle.write_plan.specs.Plans.{writeVerdict, Planned};
+ghost use Rattle.call_write.specs.Settled.{settled, Moves};
+use answers::Answer;
+use gate::Gate;
+use placing::Position;
+use placing::Segment;
+use tables::Opening;
+use write_plan::Plan;
+
+// The element goes into its segment, the pointer grows, the opening is put back.
+fn settle(
+    store: &mut [u32],
+    tables: &mut [u32],
+    entry: usize,
+    opening: Opening,
+    pointer: u32,
+    segment: Segment,
+    number: u32,
+) -> Answer
+    requires { ⌜ (length (now tables) ≡ tablesLength) × (entry < entries) × (segment .0 * segmentCells + segmentCells ≤ length (now store)) × Moves opening pointer ⌝ }
+    ensures { λ r. ⌜ outcome r (now (store .exit)) (now (tables .exit)) ≡ settled (now (store .entry)) (now (tables .entry)) entry opening pointer number segment ⌝ }
+{
+    let value = opening.value(pointer);
+    store::put_element(store, opening.species, segment, Position::of(value), number);
+    let after = opening.step(pointer, Position::of(value + 1));
+    tables_values::openings::put_opening(tables, entry, after);
+    Answer::Done(0)
+}
+
+fn carry(
+    store: &mut [u32],
+    tables: &mut [u32],
+    entry: usize,
+    opening: Opening,
+    pointer: u32,
+    number: u32,
+    plan: Plan,
+) -> Answer
+    requires { ⌜ (length (now tables) ≡ tablesLength) × (entry < entries) × (segmentsIn (now tables) * segmentCells ≤ length (now store)) × Known (now tables) opening × Planned (now tables) opening pointer (writeVerdict (now tables) opening pointer) plan ⌝ }
+    ensures { λ r. ⌜ outcome r (now (store .exit)) (now (tables .exit)) ≡ usedOut (now (store .entry)) (now (tables .entry)) entry opening (writeVerdict (now (tables .entry)) opening pointer number) ⌝ }
+{
+    match plan {
+        Plan::No(why) => Answer::Refused(why),
+        // "Through 0: the first element is dropped, no segment is taken and no store cell changes."
+        Plan::Drop => {
+            let after = opening_steps::first_left(opening);
+            tables_values::openings::put_opening(tables, entry, after);
+            Answer::Done(0)
+        }
+        Plan::Put(own) => settle(store, tables, entry, opening, pointer, own, number),
+        Plan::Copy(place, shared, taken) => {
+            store::copy_segment(store, shared, taken);
+            let changed = opening_steps::with_segment(opening, place, taken);
+            settle(store, tables, entry, changed, pointer, taken, number)
+        }
+        Plan::Zero(place, fresh) => {
+            store::zero_segment(store, fresh);
+            let changed = opening_steps::with_segment(opening, place, fresh);
+            settle(store, tables, entry, changed, pointer, fresh, number)
+        }
+    }
+}
+
+// Writes a number through a pointer of an entry of a user.
+pub fn write(
+    store: &mut [u32],
+    tables: &mut [u32],
+    user: u32,
+    entry: u32,
+    pointer: u32,
+    number: u32,
+) -> Answer
+    ensures { λ r. ⌜ outcome r (now (store .exit)) (now (tables .exit)) ≡ requestOut (uses (write pointer number)) (now (store .entry)) (now (tables .entry)) user entry ⌝ }
+{
+    let reached = gate::reach(store.len(), tables, user, entry);
+    match reached {
+        Gate::No(why) => Answer::Refused(why),
+        Gate::At(at) => {
+            let opening = tables_values::openings::load_opening(tables, at);
+            let plan = write_plan::decide(tables, opening, pointer);
+            carry(store, tables, at, opening, pointer, number, plan)
+        }
+    }
+}

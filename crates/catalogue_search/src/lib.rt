@@ -1,0 +1,139 @@
+// Searches through the catalogue in lent tables.
+ghost use mathlib.Core.Path.{_≡_};
+ghost use mathlib.Core.Bool.{not};
+ghost use Prim.Native.Nat.{_<_};
+ghost use lib.Dec.{eqb, ltb};
+ghost use lib.ListN.{length};
+ghost use Rattle.combine.specs.First.{firstBelow};
+ghost use Rattle.placing.specs.Sizes.{entries, places, tablesLength};
+ghost use Rattle.rules.specs.Rules.{lookUp};
+ghost use Rattle.tables.specs.Layout.{recordOf, recordAt, openingOf, openingAt};
+ghost use Rattle.tables.specs.Fields.{isUsed};
+ghost use Rattle.catalogue_laws.specs.Places.{headings, usedWith, another};
+ghost use Rattle.catalogue_laws.specs.Entries.{keepsOff};
+ghost use Rattle.catalogue_search.specs.Sought.{concerned, sought};
+
+// Of whose files a search is: the user's own, the public ones, or the private ones of users other than this one.
+pub enum Wanted {
+    Own(u32),
+    Public,
+    Anothers(u32),
+}
+
+fn concerns(wanted: Wanted, owner: u32, private: u32) -> bool
+    ensures { λ r. ⌜ r ≡ concerned wanted owner (eqb private 1) ⌝ }
+{
+    match wanted {
+        Wanted::Own(user) => owner == user,
+        Wanted::Public => private != 1,
+        Wanted::Anothers(user) => {
+            if owner == user {
+                return false;
+            }
+            private == 1
+        }
+    }
+}
+
+// Whether a record is used, has the name and is wanted.
+fn fits(row: &[u32], wanted: Wanted, name: &[u32; 12]) -> bool
+    requires { ⌜ length (now row) ≡ 50 ⌝ }
+    ensures { λ r. ⌜ r ≡ usedWith (sought wanted (now (name .entry))) (recordOf (now (row .entry))) ⌝ }
+{
+    if row[0] != 1 {
+        return false;
+    }
+    if !concerns(wanted, row[13], row[14]) {
+        return false;
+    }
+    combine::same_cells(&row[1..13], name)
+}
+
+// The same of the record at a place, but for the one that the number of an opening names.
+fn fits_at(tables: &[u32], wanted: Wanted, name: &[u32; 12], but: usize, place: usize) -> bool
+    requires { ⌜ (length (now tables) ≡ tablesLength) × (place < places) ⌝ }
+    ensures { λ r. ⌜ r ≡ another (sought wanted (now (name .entry))) (now (tables .entry)) but place ⌝ }
+{
+    if place + 1 == but {
+        return false;
+    }
+    let from = 1 + 50 * place;
+    let to = from + 50;
+    fits(&tables[from..to], wanted, name)
+}
+
+// The lowest place with such a record; 64, where there is none.
+pub fn find(tables: &[u32], wanted: Wanted, name: &[u32; 12], but: usize) -> usize
+    requires { ⌜ length (now tables) ≡ tablesLength ⌝ }
+    ensures { λ r. ⌜ r ≡ firstBelow places (another (sought wanted (now (name .entry))) (now (tables .entry)) but) ⌝ }
+{
+    let mut place = 0;
+    while place < 64 {
+        if fits_at(tables, wanted, name, but, place) {
+            return place;
+        }
+        place += 1;
+    }
+    place
+}
+
+// "Look-up takes the user's own record of that name first, then a public one"; 64, where there is neither.
+pub fn look_up(tables: &[u32], user: u32, name: &[u32; 12]) -> usize
+    requires { ⌜ length (now tables) ≡ tablesLength ⌝ }
+    ensures { λ r. ⌜ r ≡ lookUp user (now (name .entry)) (headings (now (tables .entry))) ⌝ }
+{
+    let own = find(tables, Wanted::Own(user), name, 0);
+    if own < 64 {
+        return own;
+    }
+    find(tables, Wanted::Public, name, 0)
+}
+
+// "the lowest free place"; 64, where none is free.
+pub fn unused(tables: &[u32]) -> usize
+    requires { ⌜ length (now tables) ≡ tablesLength ⌝ }
+    ensures { λ r. ⌜ r ≡ firstBelow places (λ q. not (isUsed (recordAt (now (tables .entry)) q))) ⌝ }
+{
+    let mut lowest = 0;
+    while lowest < 64 {
+        if tables[1 + 50 * lowest] != 1 {
+            return lowest;
+        }
+        lowest += 1;
+    }
+    lowest
+}
+
+// Whether an opening keeps others from the record at a place.
+fn keeps_off(row: &[u32], place: u32, work: bool) -> bool
+    requires { ⌜ (length (now row) ≡ 56) × (place < places) ⌝ }
+    ensures { λ r. ⌜ r ≡ keepsOff work place (openingOf (now (row .entry))) ⌝ }
+{
+    if row[0] != 1 {
+        return false;
+    }
+    if place + 1 != row[1] {
+        return false;
+    }
+    if work {
+        return true;
+    }
+    row[2] == 1
+}
+
+// "Then 14: for work, if any opening of that record exists; for read, if a work opening of it exists."
+pub fn busy(tables: &[u32], place: u32, work: bool) -> bool
+    requires { ⌜ (length (now tables) ≡ tablesLength) × (place < places) ⌝ }
+    ensures { λ r. ⌜ r ≡ ltb (firstBelow entries (λ i. keepsOff work place (openingAt (now (tables .entry)) i))) entries ⌝ }
+{
+    let mut entry = 0;
+    while entry < 32 {
+        let from = 3201 + 56 * entry;
+        let to = from + 56;
+        if keeps_off(&tables[from..to], place, work) {
+            return true;
+        }
+        entry += 1;
+    }
+    false
+}

@@ -1,0 +1,112 @@
+// Free segments: how many there are. A list of segment numbers is a row of cells of the tables.
+ghost use mathlib.Core.Path.{_≡_};
+ghost use mathlib.Core.Bool.{not, _&&_, cond};
+ghost use Prim.Native.Nat.{ℕ, _<_, _≤_};
+ghost use lib.Dec.{eqb};
+ghost use lib.ListN.{getD, length};
+ghost use Rattle.combine.specs.Below.{countBelow};
+ghost use Rattle.combine.specs.Lists.{isIn};
+ghost use Rattle.placing.specs.Placing.{heldOf};
+ghost use Rattle.segments.specs.Free.{isFree, freeCount};
+ghost use Rattle.tables.specs.Lists.{heldIn};
+ghost use Rattle.tables.specs.Sound.{Ranged};
+ghost use Rattle.cells.specs.Says.{houseOf};
+ghost use Rattle.tables.specs.ExtentFacts.{SoundExtent};
+ghost use Rattle.free_count.specs.Rows.{startOf};
+use placing::Position;
+
+// Where the row of list i starts: 64 lists of records, then 32 of openings.
+pub fn row_start(i: usize) -> usize
+    requires { ⌜ i < 96 ⌝ }
+    ensures { λ r. ⌜ r ≡ startOf i ⌝ }
+{
+    if i < 64 {
+        return 19 + 50 * i;
+    }
+    3225 + 56 * (i - 64)
+}
+
+// How many segments a record or an opening holds; its first cell is 0 where there is none.
+fn held_by(used: u32, species: u32, begin: u32, end: u32) -> usize
+    requires { ⌜ ((used ≡ 0 → ⊥) → SoundExtent species begin end) ⌝ }
+    ensures { λ r. ⌜ r ≡ cond (eqb used 0) 0 (heldOf species begin end) ⌝ }
+{
+    if used == 0 {
+        return 0;
+    }
+    placing::held(species, Position::of(begin), Position::of(end)) as usize
+}
+
+// How many segments list i holds.
+pub fn held_in(tables: &[u32], i: usize) -> usize
+    requires { ⌜ Ranged (now tables) × (i < 96) ⌝ }
+    ensures { λ r. ⌜ r ≡ heldIn (now (tables .entry)) i ⌝ }
+{
+    if i < 64 {
+        let record = 1 + 50 * i;
+        return held_by(
+            tables[record],
+            tables[record + 15],
+            tables[record + 16],
+            tables[record + 17],
+        );
+    }
+    let opening = 3201 + 56 * (i - 64);
+    held_by(
+        tables[opening],
+        tables[opening + 3],
+        tables[opening + 4],
+        tables[opening + 5],
+    )
+}
+
+// Marks the numbers of a row.
+fn mark_row(row: &[u32], marks: &mut [u32; 1024])
+    requires { ⌜ (length (now marks) ≡ 1024) × ((k : ℕ) → k < length (now row) → getD (now row) k 0 < 1024) ⌝ }
+    ensures size { λ _. ⌜ length (now (marks .exit)) ≡ 1024 ⌝ }
+    ensures { λ _. ⌜ ((g : ℕ) → eqb (getD (now (marks .exit)) g 0) 0 ≡ (eqb (getD (now (marks .entry)) g 0) 0 && not (isIn g (now (row .entry))))) ⌝ }
+{
+    let mut k = 0;
+    while k < row.len() {
+        marks[row[k] as usize] = 1;
+        k += 1;
+    }
+}
+
+// How many of the first numbers are not marked.
+fn unmarked(marks: &[u32; 1024], segments: u32) -> u32
+    requires { ⌜ segments ≤ 1024 ⌝ }
+    ensures { λ r. ⌜ r ≡ countBelow segments (λ g. eqb (getD (now (marks .entry)) g 0) 0) ⌝ }
+{
+    let mut count: u32 = 0;
+    let mut number: usize = 0;
+    while number < segments as usize {
+        count += (marks[number] == 0) as u32;
+        number += 1;
+    }
+    count
+}
+
+// Marks the numbers that the lists hold.
+fn mark_lists(tables: &[u32], marks: &mut [u32; 1024])
+    requires { ⌜ Ranged (now tables) × (length (now marks) ≡ 1024) ⌝ }
+    ensures { λ _. ⌜ ((g : ℕ) → eqb (getD (now (marks .exit)) g 0) 0 ≡ (eqb (getD (now (marks .entry)) g 0) 0 && isFree (houseOf (now (tables .entry))) g)) ⌝ }
+{
+    let mut list = 0;
+    while list < 96 {
+        let start = row_start(list);
+        let count = held_in(tables, list);
+        mark_row(&tables[start..start + count], marks);
+        list += 1;
+    }
+}
+
+// "the number of free segments"
+pub fn free_count(tables: &[u32]) -> u32
+    requires { ⌜ Ranged (now tables) ⌝ }
+    ensures { λ r. ⌜ r ≡ freeCount (houseOf (now (tables .entry))) ⌝ }
+{
+    let mut marks = [0u32; 1024];
+    mark_lists(tables, &mut marks);
+    unmarked(&marks, tables[0])
+}

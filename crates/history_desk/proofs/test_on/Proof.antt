@@ -1,0 +1,101 @@
+use Rattle.history_desk.specs.Speaking.{buffer-lines}
+use borrow.Author.Needs.{needs}
+use Rattle.history_desk.proofs.test_on.Statement.{statement}
+use Rattle.history_desk.proofs.test_on.Tie as tie
+
+enum-told : tie.Need-enum-told
+enum-told c = search needs
+
+test-requires : tie.Need-test-requires
+test-requires c κs = search needs
+
+enum-told-2 : tie.Need-enum-told-2
+enum-told-2 c = search needs
+
+test-requires-2 : tie.Need-test-requires-2
+test-requires-2 c κs = search needs
+
+enum-known-buffer : tie.Need-enum-known-buffer
+enum-known-buffer c = search needs
+
+returns : tie.Need-returns
+returns c = search buffer-lines
+
+returns-2 : tie.Need-returns-2
+returns-2 c = search buffer-lines
+
+mul-from : tie.Need-mul-from
+mul-from c = search needs
+
+add-to : tie.Need-add-to
+add-to c = search needs
+
+mul-test : tie.Need-mul-test
+mul-test c = search needs
+
+sub-test : tie.Need-sub-test
+sub-test c = search needs
+
+part-test-start : tie.Need-part-test-start
+part-test-start c = search needs
+
+part-test-end : tie.Need-part-test-end
+part-test-end c = search needs
+
+add-test : tie.Need-add-test
+add-test c = search needs
+
+test-requires-3 : tie.Need-test-requires-3
+test-requires-3 c κs = search needs
+
+enum-told-3 : tie.Need-enum-told-3
+enum-told-3 c = search needs
+
+same-length : tie.Need-same-length
+same-length c = search needs
+
+returns-3 : tie.Need-returns-3
+returns-3 c = search buffer-lines
+
+same-length-2 : tie.Need-same-length-2
+same-length-2 c = search needs
+
+returns-4 : tie.Need-returns-4
+returns-4 c = search buffer-lines
+
+same-length-3 : tie.Need-same-length-3
+same-length-3 c = search needs
+
+returns-5 : tie.Need-returns-5
+returns-5 c = search buffer-lines
+
+returns-6 : tie.Need-returns-6
+returns-6 c = search buffer-lines
+
+pub test-on-spec : {M : Type 1} → statement M
+test-on-spec =
+    tie.close
+    (tie.spec
+    enum-told
+    test-requires
+    enum-told-2
+    test-requires-2
+    enum-known-buffer
+    returns
+    returns-2
+    mul-from
+    add-to
+    mul-test
+    sub-test
+    part-test-start
+    part-test-end
+    add-test
+    test-requires-3
+    enum-told-3
+    same-length
+    returns-3
+    same-length-2
+    returns-4
+    same-length-3
+    returns-5
+    returns-6)

@@ -1,0 +1,206 @@
+// The words of histories, by what follows them, and lines with names.
+ghost use mathlib.Core.Path.{_≡_};
+ghost use Rattle.history_lines.specs.Spelling.{found, twoWords, threeWords, nameWords, bufferWords, bufferNames};
+ghost use Rattle.history_lines.specs.declared.OfTwo.the-variants as OfTwo;
+ghost use Rattle.history_lines.specs.declared.OfThree.the-variants as OfThree;
+ghost use Rattle.history_lines.specs.declared.OfName.the-variants as OfName;
+ghost use Rattle.history_lines.specs.declared.OfBuffer.the-variants as OfBuffer;
+ghost use Rattle.history_lines.specs.declared.Buffer.the-variants as Buffer;
+ghost use Rattle.history_lines.specs.Naming.{namedAt, entryAt};
+use history_words::NumberAt;
+
+// The words that are followed by user and entry.
+pub enum OfTwo {
+    Close,
+    Public,
+    Abandon,
+    Reset,
+    Species,
+    Claim,
+    Permit,
+    Begin,
+    End,
+    Unknown,
+}
+
+// The words that are followed by user, entry and one number more.
+pub enum OfThree {
+    Next,
+    Prev,
+    New,
+    Pointer,
+    Delete,
+    Symbol,
+    Value,
+    Unknown,
+}
+
+// The words that are followed by user, entry and a name.
+pub enum OfName {
+    Work,
+    Read,
+    Rename,
+    Unknown,
+}
+
+// The words that are followed by a buffer, for tests.
+pub enum OfBuffer {
+    Lend,
+    Peek,
+    Poke,
+    Sum,
+    Unknown,
+}
+
+// The buffers of the lines that are no calls.
+pub enum Buffer {
+    Store,
+    Tables,
+    Image(usize),
+    Unknown,
+}
+
+// User and entry of a line with a name, and the place where the entry's word ends.
+pub enum Named {
+    Is(u32, u32, usize),
+    Bad,
+}
+
+pub fn of_two_word(word: &[u8]) -> OfTwo
+    ensures { λ r. ⌜ r ≡ found twoWords OfTwo.Unknown (now (word .entry)) ⌝ }
+{
+    if history_words::same(word, b"close") {
+        return OfTwo::Close;
+    }
+    if history_words::same(word, b"public") {
+        return OfTwo::Public;
+    }
+    if history_words::same(word, b"abandon") {
+        return OfTwo::Abandon;
+    }
+    if history_words::same(word, b"reset") {
+        return OfTwo::Reset;
+    }
+    if history_words::same(word, b"species") {
+        return OfTwo::Species;
+    }
+    if history_words::same(word, b"claim") {
+        return OfTwo::Claim;
+    }
+    if history_words::same(word, b"permit") {
+        return OfTwo::Permit;
+    }
+    if history_words::same(word, b"begin") {
+        return OfTwo::Begin;
+    }
+    if history_words::same(word, b"end") {
+        return OfTwo::End;
+    }
+    OfTwo::Unknown
+}
+
+pub fn of_three_word(word: &[u8]) -> OfThree
+    ensures { λ r. ⌜ r ≡ found threeWords OfThree.Unknown (now (word .entry)) ⌝ }
+{
+    if history_words::same(word, b"next") {
+        return OfThree::Next;
+    }
+    if history_words::same(word, b"prev") {
+        return OfThree::Prev;
+    }
+    if history_words::same(word, b"new") {
+        return OfThree::New;
+    }
+    if history_words::same(word, b"pointer") {
+        return OfThree::Pointer;
+    }
+    if history_words::same(word, b"delete") {
+        return OfThree::Delete;
+    }
+    if history_words::same(word, b"symbol") {
+        return OfThree::Symbol;
+    }
+    if history_words::same(word, b"value") {
+        return OfThree::Value;
+    }
+    OfThree::Unknown
+}
+
+pub fn of_name_word(word: &[u8]) -> OfName
+    ensures { λ r. ⌜ r ≡ found nameWords OfName.Unknown (now (word .entry)) ⌝ }
+{
+    if history_words::same(word, b"work") {
+        return OfName::Work;
+    }
+    if history_words::same(word, b"read") {
+        return OfName::Read;
+    }
+    if history_words::same(word, b"rename") {
+        return OfName::Rename;
+    }
+    OfName::Unknown
+}
+
+pub fn of_buffer_word(word: &[u8]) -> OfBuffer
+    ensures { λ r. ⌜ r ≡ found bufferWords OfBuffer.Unknown (now (word .entry)) ⌝ }
+{
+    if history_words::same(word, b"lend") {
+        return OfBuffer::Lend;
+    }
+    if history_words::same(word, b"peek") {
+        return OfBuffer::Peek;
+    }
+    if history_words::same(word, b"poke") {
+        return OfBuffer::Poke;
+    }
+    if history_words::same(word, b"sum") {
+        return OfBuffer::Sum;
+    }
+    OfBuffer::Unknown
+}
+
+// "Buffers are named store, tables, image0 to image3."
+pub fn buffer_named(word: &[u8]) -> Buffer
+    ensures { λ r. ⌜ r ≡ found bufferNames Buffer.Unknown (now (word .entry)) ⌝ }
+{
+    if history_words::same(word, b"store") {
+        return Buffer::Store;
+    }
+    if history_words::same(word, b"tables") {
+        return Buffer::Tables;
+    }
+    if history_words::same(word, b"image0") {
+        return Buffer::Image(0);
+    }
+    if history_words::same(word, b"image1") {
+        return Buffer::Image(1);
+    }
+    if history_words::same(word, b"image2") {
+        return Buffer::Image(2);
+    }
+    if history_words::same(word, b"image3") {
+        return Buffer::Image(3);
+    }
+    Buffer::Unknown
+}
+
+// The user and the entry that follow a place of the line.
+pub fn named_at(line: &[u8], at: usize) -> Named
+    ensures { λ r. ⌜ r ≡ namedAt (now (line .entry)) at ⌝ }
+{
+    let found = history_words::number_at(line, at);
+    match found {
+        NumberAt::Is(user, to) => entry_at(line, to, user),
+        NumberAt::Bad => Named::Bad,
+    }
+}
+
+fn entry_at(line: &[u8], at: usize, user: u32) -> Named
+    ensures { λ r. ⌜ r ≡ entryAt (now (line .entry)) user at ⌝ }
+{
+    let found = history_words::number_at(line, at);
+    match found {
+        NumberAt::Is(entry, to) => Named::Is(user, entry, to),
+        NumberAt::Bad => Named::Bad,
+    }
+}

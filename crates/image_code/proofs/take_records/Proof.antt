@@ -1,0 +1,138 @@
+-- `encoding::take_records` meets its contract: after p turns the tables have p records after their first cell. Assumes nothing.
+use Prim.Native.Nat.{ℕ, _+_, _-_, _*_, _≤_}
+use mathlib.Core.Path.{_≡_, refl, ap, _∙_}
+use mathlib.Core.List.{List}
+use denote.Ref.{now}
+use native.Mathlib.Omega.{arith}
+use lib.ListN.{length}
+use Rattle.packing.specs.Packing.{unpacked, rowOf}
+use Rattle.image.specs.Image.{form1, recordWidths, recordFrom}
+use Rattle.image_code.specs.Lengths.{record-from-length}
+use Rattle.image_code.proofs.Turns.{mid-part, mid-is, placed, none-placed, not-placed, one-placed, all-placed, zeros-come}
+use borrow.Author.Needs.{needs}
+use Rattle.image_code.proofs.take_records.Statement.{statement}
+use Rattle.image_code.proofs.take_records.Tie as tie
+
+abbrev Inv-loop : tie.InvT-loop
+Inv-loop image tables₀ p₀ tables p = (p ≤ 64) × (length tables ≡ length tables₀) × (tables ≡ placed (recordFrom form1 image) 50 (record-from-length image) tables₀ p)
+
+abbrev μ-loop : tie.MeasureT-loop
+μ-loop image tables₀ p₀ tables p = 64 - p
+
+loop-holds : tie.Need-loop-holds Inv-loop μ-loop
+loop-holds c =
+    let a = c .before .before .args in
+    (omega arith, refl, none-placed (recordFrom form1 (now (a .image))) 50 (record-from-length (now (a .image))) (now (a .tables)) refl)
+
+mul-take-record : tie.Need-mul-take-record Inv-loop μ-loop
+mul-take-record c = search needs
+
+add-take-record : tie.Need-add-take-record Inv-loop μ-loop
+add-take-record c = search needs
+
+mul-take-record-2 : tie.Need-mul-take-record-2 Inv-loop μ-loop
+mul-take-record-2 c = search needs
+
+add-take-record-2 : tie.Need-add-take-record-2 Inv-loop μ-loop
+add-take-record-2 c = search needs
+
+mul-take-record-3 : tie.Need-mul-take-record-3 Inv-loop μ-loop
+mul-take-record-3 c = search needs
+
+sub-take-record : tie.Need-sub-take-record Inv-loop μ-loop
+sub-take-record c = search needs
+
+part-take-record-start : tie.Need-part-take-record-start Inv-loop μ-loop
+part-take-record-start c = search needs
+
+part-take-record-end : tie.Need-part-take-record-end Inv-loop μ-loop
+part-take-record-end c = search needs
+
+mul-take-record-4 : tie.Need-mul-take-record-4 Inv-loop μ-loop
+mul-take-record-4 c = search needs
+
+add-take-record-3 : tie.Need-add-take-record-3 Inv-loop μ-loop
+add-take-record-3 c = search needs
+
+mul-take-record-5 : tie.Need-mul-take-record-5 Inv-loop μ-loop
+mul-take-record-5 c = search needs
+
+add-take-record-4 : tie.Need-add-take-record-4 Inv-loop μ-loop
+add-take-record-4 c = search needs
+
+mul-take-record-6 : tie.Need-mul-take-record-6 Inv-loop μ-loop
+mul-take-record-6 c = search needs
+
+sub-take-record-2 : tie.Need-sub-take-record-2 Inv-loop μ-loop
+sub-take-record-2 c = search needs
+
+part-take-record-start-2 : tie.Need-part-take-record-start-2 Inv-loop μ-loop
+part-take-record-start-2 c = search needs
+
+part-take-record-end-2 : tie.Need-part-take-record-end-2 Inv-loop μ-loop
+part-take-record-end-2 c = search needs
+
+take-record-requires : tie.Need-take-record-requires Inv-loop μ-loop
+take-record-requires c κs =
+    let s = c .before .before .before .before .before .before in
+    let l = c .before .before .before .loop in
+    let img = now (s .args .image) in
+    let t = now (s .args .tables) in (
+      mid-part (1 + 14 * l .p) (15 + 14 * l .p) 14 img (omega arith) (omega arith),
+      zeros-come t (l .tables) (l .p) (51 + 50 * l .p) (omega arith) (omega arith) (s .pre .2)
+          (not-placed (recordFrom form1 img) 50 (record-from-length img) t (l .tables) (l .p) (omega arith) (l .inv .2)),
+    )
+
+add-p : tie.Need-add-p Inv-loop μ-loop
+add-p c = search needs
+
+loop-less : tie.Need-loop-less Inv-loop μ-loop
+loop-less c = search needs
+
+loop-again : tie.Need-loop-again Inv-loop μ-loop
+unfolding recordFrom
+loop-again c =
+    let s = c .before .before .before .before .before .before .before .before .before in
+    let i = now (s .args .image) in
+    let l = c .before .before .before .before .before .before .loop in
+    let f = c .before .before .take-record in
+    (omega arith, c .before .tables .given .1 ∙ l .inv .1, one-placed (recordFrom form1 i) 50 (record-from-length i) (now (s .args .tables)) (l .tables) (f .last .1 .0) (l .p) (51 + 50 * l .p) (omega arith) (omega arith) (omega arith) (l .inv .2) (f .ensures ∙ ap (λ (r : List ℕ). unpacked recordWidths (rowOf r)) (mid-is (1 + 14 * l .p) (15 + 14 * l .p) 14 i (omega arith))))
+
+same-length : tie.Need-same-length Inv-loop μ-loop
+same-length c = search needs
+
+returns : tie.Need-returns Inv-loop μ-loop
+returns c =
+    let s = c .before .before .before .before in
+    let l = c .before .loop in
+    all-placed (recordFrom form1 (now (s .args .image))) 50 (record-from-length (now (s .args .image))) (now (s .args .tables)) (l .tables) (l .p) 3201 (omega arith) refl (l .inv .2)
+
+pub take-records-spec : {M : Type 1} → statement M
+take-records-spec =
+    tie.close
+    (tie.spec
+    Inv-loop
+    μ-loop
+    loop-holds
+    mul-take-record
+    add-take-record
+    mul-take-record-2
+    add-take-record-2
+    mul-take-record-3
+    sub-take-record
+    part-take-record-start
+    part-take-record-end
+    mul-take-record-4
+    add-take-record-3
+    mul-take-record-5
+    add-take-record-4
+    mul-take-record-6
+    sub-take-record-2
+    part-take-record-start-2
+    part-take-record-end-2
+    take-record-requires
+    add-p
+    loop-less
+    loop-again
+    same-length
+    returns)

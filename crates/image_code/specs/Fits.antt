@@ -1,0 +1,153 @@
+-- What the image rests on: the numbers of a sound record fit its widths, and an unused record is all zero. Assumes nothing.
+use Prim.Native.Nat.{ℕ, zero, suc, _+_, _-_, _^_, _≤_, _<_, zero-le}
+use mathlib.Core.Path.{_≡_, refl, subst, _∙_}
+use mathlib.Core.Logic.{⊎-elim}
+use mathlib.Core.Bool.{Bool, true, false, cond}
+use mathlib.Core.List.{List, [], _∷_, map}
+use native.Mathlib.Nat.{le-refl, lt-of-lt-of-le}
+use native.Mathlib.Omega.{arith}
+use borrow.Author.Tests.{eqb-true, eq-eqb, leb-true, ltb-true, ltb-false}
+use lib.Dec.{eqb, leb, ltb, lit<}
+use lib.ListN.{length, getD}
+use lib.Pow.{pow-pos}
+use Rattle.combine.specs.Below.{allBelow, all-at, split-bool}
+use Rattle.combine.specs.Numbers.{le-or-lt}
+use Rattle.combine.specs.Rows.{each-of}
+use Rattle.combine.specs.Lists.{part}
+use Rattle.combine.specs.Parts.{length-part, getD-part}
+use Rattle.placing.specs.Placing.{segment}
+use Rattle.placing.specs.Sizes.{places, mostSegments}
+use Rattle.names.specs.Small.{name-small}
+use Rattle.tables.specs.Layout.{recordBase, recordOf, recordAt, segmentsIn}
+use Rattle.tables.specs.Records.{usedb, recordb, recordsb}
+use Rattle.tables.specs.ExtentFacts.{SoundList}
+use Rattle.tables.specs.RecordFacts.{usedb-facts}
+use Rattle.tables.specs.Sound.{Ranged}
+use Rattle.sound_extents.specs.Numbers.{segment-number}
+use Rattle.sound_records.specs.Unused.{unused-row}
+use Rattle.packing_rows.specs.Waiting.{Fitting}
+use Rattle.image.specs.Image.{headWidths, recordWidths}
+
+-- 50 cells, each of its width
+abbrev pub Fits : List ℕ → Type 0
+Fits c = (k : ℕ) → k < 50 → getD c k 0 < 2 ^ getD recordWidths k 0
+
+-- ---- the head
+
+pub head-fits : (n : ℕ) → n < 2048 → Fitting headWidths (1 ∷ n ∷ 0 ∷ [])
+unfolding headWidths
+head-fits n h zero l = lit< tt
+head-fits n h (suc zero) l = h
+head-fits n h (suc (suc zero)) l = lit< tt
+head-fits n h (suc (suc (suc i))) l = absurd (let z : ⊥ = omega arith in z)
+
+-- ---- above each number: used; symbols; owner, private, species, begin, end; segment numbers
+
+abbrev heads : List ℕ
+heads = 8 ∷ 2 ∷ 8 ∷ 16777216 ∷ 16777216 ∷ []
+
+unfoldable limit : ℕ → ℕ
+limit k = cond (ltb k 1) 2 (cond (ltb k 13) 64 (cond (ltb k 18) (getD heads (k - 13) 0) 1024))
+
+limit-width : (k : ℕ) → k < 50 → limit k ≤ 2 ^ getD recordWidths k 0
+unfolding allBelow limit recordWidths
+limit-width k l = leb-true _ _ (all-at (λ k. leb (limit k) (2 ^ getD recordWidths k 0)) 50 refl k l)
+
+record Small (c : List ℕ) : Type 0 where
+  used : getD c 0 0 < 2
+  name : (k : ℕ) → k < 12 → getD c (1 + k) 0 < 64
+  middle : (j : ℕ) → j < 5 → getD c (13 + j) 0 < getD heads j 0
+  segments : (k : ℕ) → k < 32 → getD c (18 + k) 0 < 1024
+
+small-fits : (c : List ℕ) → Small c → Fits c
+unfolding limit
+small-fits c s k l = lt-of-lt-of-le (go (ltb k 1) (ltb k 13) (ltb k 18) refl refl refl) (limit-width k l)
+  where
+    go : (a b d : Bool) → ltb k 1 ≡ a → ltb k 13 ≡ b → ltb k 18 ≡ d → getD c k 0 < cond a 2 (cond b 64 (cond d (getD heads (k - 13) 0) 1024))
+    go true b d p q r =
+        let e : 0 ≡ k = let h = ltb-true k 1 p in omega arith in
+        subst (λ (i : ℕ). getD c i 0 < 2) e (s .used)
+    go false true d p q r =
+        let h = ltb-false k 1 p in
+        let m = ltb-true k 13 q in
+        let e : 1 + (k - 1) ≡ k = omega arith in
+        subst (λ (i : ℕ). getD c i 0 < 64) e (s .name (k - 1) (omega arith))
+    go false false true p q r =
+        let h = ltb-false k 13 q in
+        let m = ltb-true k 18 r in
+        let e : 13 + (k - 13) ≡ k = omega arith in
+        subst (λ (i : ℕ). getD c i 0 < getD heads (k - 13) 0) e (s .middle (k - 13) (omega arith))
+    go false false false p q r =
+        let h = ltb-false k 18 r in
+        let e : 18 + (k - 18) ≡ k = omega arith in
+        subst (λ (i : ℕ). getD c i 0 < 1024) e (s .segments (k - 18) (omega arith))
+
+five : (P : ℕ → Type 0) → P 0 → P 1 → P 2 → P 3 → P 4 → (j : ℕ) → j < 5 → P j
+five P a b c d e zero l = a
+five P a b c d e (suc zero) l = b
+five P a b c d e (suc (suc zero)) l = c
+five P a b c d e (suc (suc (suc zero))) l = d
+five P a b c d e (suc (suc (suc (suc zero)))) l = e
+five P a b c d e (suc (suc (suc (suc (suc j))))) l = absurd (let z : ⊥ = omega arith in z)
+
+-- ---- a name, and a list of segments
+
+default-le : (l : List ℕ) (k : ℕ) → getD l k 0 ≤ getD l k 63
+default-le [] k = zero-le
+default-le (x ∷ l) zero = le-refl x
+default-le (x ∷ l) (suc k) = default-le l k
+
+list-small : (n held : ℕ) (l : List ℕ) → n ≤ mostSegments → SoundList n held (map segment l) → (k : ℕ) → k < 32 → getD l k 0 < 1024
+list-small n held l m f k h =
+    ⊎-elim (λ p. omega (arith, segment-number l k, f .unusedZero k p h)) (λ q. omega (arith, segment-number l k, f .inRange k q)) (le-or-lt held k)
+
+-- ---- a record of 50 cells
+
+module _ (n : ℕ) (most : n ≤ mostSegments) (c : List ℕ) where
+  used-small : usedb n (recordOf c) ≡ true → Small c
+  unfolding recordOf
+  used-small ok =
+      let f = usedb-facts n (recordOf c) ok in
+      let x = f .extent in
+      record {
+        used = omega (arith, f .used);
+        name = λ k l. omega (arith, getD-part c 1 12 k l, default-le (part c 1 12) k, name-small (part c 1 12) (f .name) k l);
+        middle =
+            five (λ j. getD c (13 + j) 0 < getD heads j 0) (omega (arith, f .owner)) (omega (arith, f .private)) (omega (arith, x .species))
+            (omega (arith, x .end, x .greatest)) (omega (arith, x .greatest));
+        segments = λ k l. omega (arith, getD-part c 18 32 k l, list-small n _ (part c 18 32) most (f .list) k l);
+      }
+
+  -- "an unused record is all zero"
+  record-blank : length c ≡ 50 → recordb n (recordOf c) ≡ true → getD c 0 0 ≡ 0 → allBelow (length c) (λ k. eqb (getD c k 0) 0) ≡ true
+  unfolding recordb recordOf
+  record-blank l ok z = unused-row c l z ∙ (rw (eq-eqb (getD c 0 0) 0 z) at ok)
+
+  record-fits : length c ≡ 50 → recordb n (recordOf c) ≡ true → Fits c
+  unfolding recordb recordOf
+  record-fits l ok = ⊎-elim unused (λ p. small-fits c (used-small (rw p at ok))) (split-bool (eqb (getD c 0 0) 0))
+    where
+      unused : eqb (getD c 0 0) 0 ≡ true → Fits c
+      unused p k h =
+          let z = eqb-true (getD c k 0) 0 (all-at _ (length c) (record-blank l ok (eqb-true (getD c 0 0) 0 p)) k (omega arith)) in
+          omega (arith, z, pow-pos (getD recordWidths k 0))
+
+pub record Writable (c : List ℕ) : Type 0 where
+  pub fits : Fits c
+  pub blank : getD c 0 0 ≡ 0 → allBelow (length c) (λ k. eqb (getD c k 0) 0) ≡ true
+
+-- ---- in sound tables
+
+module _ (t : List ℕ) (w : Ranged t) (p : ℕ) (l : p < places) where
+  sound : recordb (segmentsIn t) (recordOf (part t (recordBase p) 50)) ≡ true
+  unfolding recordsb recordAt
+  sound = all-at _ places (each-of _ (w .1) .0) p l
+
+  long : length (part t (recordBase p) 50) ≡ 50
+  long = length-part t (recordBase p) 50 (omega (arith, w .0))
+
+  pub records-fit : Fits (part t (recordBase p) 50)
+  records-fit = record-fits (segmentsIn t) (w .3) (part t (recordBase p) 50) long sound
+
+  pub records-writable : Writable (part t (recordBase p) 50)
+  records-writable = record { fits = records-fit; blank = record-blank (segmentsIn t) (w .3) (part t (recordBase p) 50) long sound }

@@ -1,0 +1,122 @@
+// The catalogue image of the tables, and the tables of a catalogue image.
+ghost use mathlib.Core.Path.{_≡_};
+ghost use mathlib.Core.List.{_++_};
+ghost use Prim.Native.Nat.{_≤_};
+ghost use lib.ListN.{length, take, drop, replicate};
+ghost use Rattle.combine.specs.Lists.{joined, tab};
+ghost use Rattle.packing.specs.Packing.{packed, unpacked, rowOf, cellsOf};
+ghost use Rattle.placing.specs.Sizes.{tablesLength, places, mostSegments};
+ghost use Rattle.tables.specs.Sound.{Ranged};
+ghost use Rattle.image.specs.Image.{form1, imageLength, headWidths, recordWidths, headImage, recordImage, imageOf, recordFrom, tablesFrom};
+ghost use Rattle.image_code.specs.Fits.{Fits, Writable};
+
+mod widths;
+
+// The image's first cell: form 1, the number of segments, zero bits.
+fn put_head(segments: u32, out: &mut [u32])
+    requires { ⌜ (length (now out) ≡ 1) × (segments ≤ mostSegments) ⌝ }
+    ensures { λ _. ⌜ now (out .exit) ≡ headImage form1 segments ⌝ }
+{
+    let values = [1, segments, 0];
+    packing_rows::pack(out, &widths::HEAD, &values);
+}
+
+// Form, number of segments and zero bits of the image's first cell.
+pub fn take_head(cells: &[u32]) -> [u32; 3]
+    requires { ⌜ length (now cells) ≡ 1 ⌝ }
+    ensures { λ r. ⌜ r ≡ unpacked headWidths (rowOf (now (cells .entry))) ⌝ }
+{
+    let mut values = [0u32; 3];
+    packing_rows::unpack(cells, &widths::HEAD, &mut values);
+    values
+}
+
+// A record's 50 cells of the tables into its 14 of the image: the fields fill four of them, the segment numbers ten.
+fn pack_record(values: &[u32], out: &mut [u32])
+    requires { ⌜ (length (now values) ≡ 50) × (length (now out) ≡ 14) × Fits (now values) ⌝ }
+    ensures { λ _. ⌜ now (out .exit) ≡ cellsOf 14 (packed recordWidths (now (values .entry))) ⌝ }
+{
+    packing_rows::pack(&mut out[0..4], &widths::FIELDS, &values[0..18]);
+    packing_rows::pack(&mut out[4..14], &widths::NUMBERS, &values[18..50]);
+}
+
+// The same for a record that may be unused: "an unused record is all zero", and so are its cells of the image.
+fn put_record(values: &[u32], out: &mut [u32])
+    requires { ⌜ (length (now values) ≡ 50) × (length (now out) ≡ 14) × Writable (now values) ⌝ }
+    ensures { λ _. ⌜ now (out .exit) ≡ cellsOf 14 (packed recordWidths (now (values .entry))) ⌝ }
+{
+    if values[0] == 0 {
+        combine::fill_cells(out, 0);
+        return;
+    }
+    pack_record(values, out);
+}
+
+// The 50 cells of the record that 14 cells of the image say.
+fn unpack_record(cells: &[u32], out: &mut [u32])
+    requires { ⌜ (length (now cells) ≡ 14) × (length (now out) ≡ 50) ⌝ }
+    ensures { λ _. ⌜ now (out .exit) ≡ unpacked recordWidths (rowOf (now (cells .entry))) ⌝ }
+{
+    packing_rows::unpack(&cells[0..4], &widths::FIELDS, &mut out[0..18]);
+    packing_rows::unpack(&cells[4..14], &widths::NUMBERS, &mut out[18..50]);
+}
+
+// The same where the 50 cells are zero: they stay so for cells that are all zero.
+fn take_record(cells: &[u32], out: &mut [u32])
+    requires { ⌜ (length (now cells) ≡ 14) × (now out ≡ replicate 50 0) ⌝ }
+    ensures { λ _. ⌜ now (out .exit) ≡ unpacked recordWidths (rowOf (now (cells .entry))) ⌝ }
+{
+    if combine::all_zero(cells) {
+        return;
+    }
+    unpack_record(cells, out);
+}
+
+// "Saving writes the records only, whatever is open."
+fn put_records(tables: &[u32], image: &mut [u32])
+    requires { ⌜ Ranged (now tables) × (length (now image) ≡ imageLength form1) ⌝ }
+    ensures { λ _. ⌜ now (image .exit) ≡ take 1 (now (image .entry)) ++ joined (tab places (recordImage form1 (now (tables .entry)))) ⌝ }
+{
+    let mut p = 0;
+    while p < 64 {
+        put_record(
+            &tables[1 + 50 * p..51 + 50 * p],
+            &mut image[1 + 14 * p..15 + 14 * p],
+        );
+        p += 1;
+    }
+}
+
+// The records of the image into tables that are zero behind their first cell.
+fn take_records(image: &[u32], tables: &mut [u32])
+    requires { ⌜ (length (now image) ≡ imageLength form1) × (length (now tables) ≡ tablesLength) × (drop 1 (now tables) ≡ replicate 4992 0) ⌝ }
+    ensures { λ _. ⌜ now (tables .exit) ≡ take 1 (now (tables .entry)) ++ (joined (tab places (recordFrom form1 (now (image .entry)))) ++ drop 3201 (now (tables .entry))) ⌝ }
+{
+    let mut p = 0;
+    while p < 64 {
+        take_record(
+            &image[1 + 14 * p..15 + 14 * p],
+            &mut tables[1 + 50 * p..51 + 50 * p],
+        );
+        p += 1;
+    }
+}
+
+// The image of sound tables.
+pub fn put_image(tables: &[u32], image: &mut [u32])
+    requires { ⌜ Ranged (now tables) × (length (now image) ≡ imageLength form1) ⌝ }
+    ensures { λ _. ⌜ now (image .exit) ≡ imageOf form1 (now (tables .entry)) ⌝ }
+{
+    put_head(tables[0], &mut image[0..1]);
+    put_records(tables, image);
+}
+
+// The tables of the image, with nothing open, where all was zero.
+pub fn take_image(image: &[u32], tables: &mut [u32])
+    requires { ⌜ (length (now image) ≡ imageLength form1) × (now tables ≡ replicate tablesLength 0) ⌝ }
+    ensures { λ _. ⌜ now (tables .exit) ≡ tablesFrom form1 (now (image .entry)) ⌝ }
+{
+    let head = take_head(&image[0..1]);
+    tables[0] = head[1];
+    take_records(image, tables);
+}

@@ -1,0 +1,56 @@
+-- A save, beside the model's: "Saving writes the records only, whatever is open." Assumes nothing.
+use Prim.Native.Nat.{ℕ}
+use mathlib.Core.Path.{_≡_, refl, ap, _∙_}
+use mathlib.Core.Bool.{Bool, true, false, cond}
+use mathlib.Core.Option.{Option, none, some}
+use mathlib.Core.List.{List}
+use lib.Dec.{eqb}
+use lib.ListN.{length}
+use Rattle.combine.specs.Verdict.{done, refuse_when_else_}
+use Rattle.combine.specs.Outcome.{Outcome, settle}
+use Rattle.rules.specs.Calls.{save}
+use Rattle.rules.specs.Gates.{startGate, imageGate}
+use Rattle.rules.specs.House.{closedDown}
+use Rattle.segments.specs.Free.{SegmentHouse}
+use Rattle.tables.specs.Sound.{ranged-of}
+use Rattle.image.specs.Image.{form1, imageLength, imageOf, tablesFrom}
+use Rattle.cells.specs.Says.{houseOf}
+use Rattle.cells.specs.Outcomes.{Lent, Saved, saved, soundLent, saveOut}
+use Rattle.model.specs.Model.{Files, Model}
+use Rattle.model.specs.Step.{Report, report}
+use Rattle.model.specs.View.{viewHouse, view, filesIn}
+use Rattle.demands.specs.Demands.{Sound, Refines}
+use Rattle.proof_images.specs.Closed.{closed-says}
+use Rattle.proof_images.specs.Done.{saved-again, saved-sound}
+
+-- what is told of a save, and what users know afterwards: on cells, and in the model
+abbrev cellsSaid : List ℕ → List ℕ → Outcome Saved → Report × Model
+cellsSaid s img o = (report (save img) (o .answer) (filesIn s (o .after .image)), view (o .after .cells .store) (o .after .cells .tables))
+
+abbrev modelSaid : List ℕ → List ℕ → List ℕ → Outcome Model → Report × Model
+modelSaid s t img o = (report (save img) (o .answer) (some (closedDown (viewHouse s (houseOf t)))), o .after)
+
+module _ (s t : List ℕ) (sound : soundLent s t ≡ true) where
+  -- whatever a save writes is sound, and holds the permanent files
+  pub saved-files : filesIn s (imageOf form1 t) ≡ some (closedDown (viewHouse s (houseOf t)))
+  unfolding filesIn
+  saved-files =
+      ap (λ (b : Bool). cond {A = Option Files} b (some (viewHouse s (houseOf (tablesFrom form1 (imageOf form1 t))))) none) (saved-sound (length s) t sound)
+      ∙ ap (λ (c : List ℕ). some (viewHouse s (houseOf c))) (saved-again (length s) t sound)
+      ∙ ap (λ (h : SegmentHouse). some (viewHouse s h)) (closed-says t (ranged-of (length s) t sound .0))
+
+  save-told : (img : List ℕ) (b : Bool)
+      → cellsSaid s img (settle (saved s t img) (imageGate true b (done (0, saved s t (imageOf form1 t)))))
+      ≡ modelSaid s t img (settle (view s t) (imageGate true b (done (0, view s t))))
+  unfolding imageGate startGate settle refuse_when_else_
+  save-told img true = λ i. (record { answer = done 0; image = saved-files i }, view s t)
+  save-told img false = refl
+
+pub save-refines : (img : List ℕ) (x : Lent) → Sound x → Refines (save img) x
+unfolding saveOut view
+save-refines img x sound =
+    let s = x .store in
+    let t = x .tables in
+    let right = eqb (length img) (imageLength form1) in
+    ap (λ (b : Bool). cellsSaid s img (settle (saved s t img) (imageGate b right (done (0, saved s t (imageOf form1 t)))))) sound
+    ∙ save-told s t sound img right

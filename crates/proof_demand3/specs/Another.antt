@@ -1,0 +1,109 @@
+-- A request by another entry, not answered 9 or 14, has the same outcome where the entry i is emptied. Assumes nothing.
+use Prim.Native.Nat.{ℕ, _≤_}
+use native.Mathlib.Omega.{arith}
+use mathlib.Core.Path.{_≡_, refl, sym, ap, _∙_, subst}
+use mathlib.Core.Logic.{_≢_}
+use mathlib.Core.Bool.{Bool, true, false, not, _&&_}
+use mathlib.Core.Option.{Option, none}
+use mathlib.Core.List.{List, map}
+use lib.Dec.{T, ltb, eqb, nltb→le, eqb-refl, T-not}
+use lib.ListN.{getD, set}
+use lib.Seq.{set-comm, getD-set-other}
+use Rattle.combine.specs.Verdict.{Verdict, refused, done, onDone, refuse_when_else_}
+use Rattle.combine.specs.Outcome.{Outcome, outcomeOf, settle}
+use Rattle.placing.specs.Sizes.{entryOf}
+use Rattle.rules.specs.Calls.{Request}
+use Rattle.rules.specs.Headings.{Open, headOf, handleOf}
+use Rattle.rules.specs.Effects.{Effect, opensNew, opensOld, ended, unfiled, filed, used}
+use Rattle.rules.specs.Gates.{userGate, entryGate}
+use Rattle.rules.specs.House.{Change, house, refiled, changed}
+use Rattle.rules.specs.Levels.{perform, ruled, orBlank}
+use Rattle.model.specs.Model.{Body, Files, Model, model, modelLevel}
+use Rattle.model.specs.Step.{performOnModel, requestOnModel}
+use Rattle.demands.specs.Abandoning.{crowded}
+use Rattle.proof_requests_sound.specs.Tests.{and-intro}
+use Rattle.proof_demand3.specs.Eased.{emptiedHouse, emptied, othersIn, eased}
+use Rattle.proof_demand3.specs.Calm.{calm, rule-eased}
+
+-- the same answer, and the entry is emptied afterwards
+abbrev pub carried : ℕ → Outcome Model → Outcome Model
+carried i o = outcomeOf (o .answer) (emptied i (o .after))
+
+-- the verdict on request r of user v, whose entry j has x; and what it does
+abbrev pub judged : Model → ℕ → Request → ℕ → Option (Open Body) → Verdict (ℕ × Model)
+judged m j r v x = onDone (performOnModel m j (orBlank modelLevel x)) (ruled modelLevel r v (m .house) x)
+
+-- ---- the effect, by entry j
+
+perform-alike : (i : ℕ) (h : Files) (x : Open Body) (f : Effect) → perform modelLevel (emptiedHouse i h) x f ≡ perform modelLevel h x f
+perform-alike i h x (opensNew n) = refl
+perform-alike i h x (opensOld p n) = refl
+perform-alike i h x ended = refl
+perform-alike i h x (unfiled p) = refl
+perform-alike i h x (filed p r) = refl
+perform-alike i h x (used u) = refl
+
+module _ (i j : ℕ) (apart : j ≢ i) (m : Model) where
+  settle-another : (x : Open Body) (v : Verdict Effect)
+      → settle (emptied i m) (onDone (performOnModel (emptied i m) j x) v) ≡ carried i (settle m (onDone (performOnModel m j x) v))
+  unfolding settle
+  settle-another x (refused n) = refl
+  settle-another x (done f) =
+      let c : Change (List ℕ) Body = perform modelLevel (m .house) x f in
+      ap (λ (d : Change (List ℕ) Body). outcomeOf (done (d .answer)) (model (m .cells) (changed (emptiedHouse i (m .house)) j d))) (perform-alike i (m .house) x f)
+      ∙ ap (λ (l : List (Option (Open Body))). outcomeOf (done (c .answer)) (model (m .cells) (house (m .house .segments) (refiled (m .house .records) (c .filing)) l)))
+      (set-comm (m .house .openings) i j none (c .entry) (λ e. apart (sym e)))
+
+calm-settled : (m : Model) (g : Effect → ℕ × Model) (v : Verdict Effect) → T (not (crowded (settle m (onDone g v) .answer))) → T (calm v)
+unfolding settle calm
+calm-settled m g (refused n) t = t
+calm-settled m g (done f) t = tt
+
+-- ---- the gate
+
+gate-another : (i : ℕ) (m : Model) (u e : ℕ) (v w : Verdict (ℕ × Model))
+    → (T (not (ltb 3 e)) → T (not (crowded (settle m v .answer))) → settle (emptied i m) w ≡ carried i (settle m v))
+    → T (not (crowded (settle m (entryGate true u e v) .answer))) → settle (emptied i m) (entryGate true u e w) ≡ carried i (settle m (entryGate true u e v))
+unfolding entryGate userGate refuse_when_else_ settle
+gate-another i m u e v w h t = go (ltb 7 u) (ltb 3 e) h t
+  where
+    go : (a b : Bool) → (T (not b) → T (not (crowded (settle m v .answer))) → settle (emptied i m) w ≡ carried i (settle m v))
+        → T (not (crowded (settle m (refuse 1 when a else refuse 2 when b else v) .answer)))
+        → settle (emptied i m) (refuse 1 when a else refuse 2 when b else w) ≡ carried i (settle m (refuse 1 when a else refuse 2 when b else v))
+    go true b h t = refl
+    go false true h t = refl
+    go false false h t = h tt t
+
+-- ---- the request
+
+entries-apart : (u e v d : ℕ) → e ≤ 3 → T (not (eqb u v && eqb e d)) → T (not (ltb 3 d)) → entryOf v d ≢ entryOf u e
+entries-apart u e v d le h hd q =
+    let ld : d ≤ 3 = nltb→le 3 d hd in
+    T-not (eqb u v && eqb e d) h (and-intro (eqb u v) (eqb e d) (test u v (omega arith)) (test e d (omega arith)))
+  where
+    test : (a b : ℕ) → a ≡ b → T (eqb a b)
+    test a b p = subst (λ (c : ℕ). T (eqb a c)) p (eqb-refl a)
+
+pub request-another : (u e : ℕ) (m : Model) (v d : ℕ) (r : Request) → e ≤ 3 → T (not (eqb u v && eqb e d)) → T (not (crowded (requestOnModel r v d m .answer)))
+    → requestOnModel r v d (emptied (entryOf u e) m) ≡ carried (entryOf u e) (requestOnModel r v d m)
+unfolding requestOnModel
+request-another u e m v d r le other t = gate-another i m v d _ _ inside t
+  where
+    i : ℕ
+    i = entryOf u e
+
+    j : ℕ
+    j = entryOf v d
+
+    mine : Option (Open Body)
+    mine = getD (m .house .openings) j none
+
+    inside : T (not (ltb 3 d)) → T (not (crowded (settle m (judged m j r v mine) .answer)))
+        → settle (emptied i m) (judged (emptied i m) j r v (getD (set (m .house .openings) i none) j none)) ≡ carried i (settle m (judged m j r v mine))
+    inside hd calmly =
+        let apart = entries-apart u e v d le other hd in
+        ap (λ (x : Option (Open Body)). settle (emptied i m) (judged (emptied i m) j r v x)) (getD-set-other (m .house .openings) i j none none apart)
+        ∙ ap (λ (w : Verdict Effect). settle (emptied i m) (onDone (performOnModel (emptied i m) j (orBlank modelLevel mine)) w))
+        (rule-eased r v (map headOf (m .house .records)) (handleOf mine) (modelLevel .takes (m .house) (orBlank modelLevel mine))
+        (othersIn (m .house)) (othersIn (emptiedHouse i (m .house))) (eased i (m .house)) (calm-settled m _ _ calmly))
+        ∙ settle-another i j apart m (orBlank modelLevel mine) (ruled modelLevel r v (m .house) mine)

@@ -1,0 +1,118 @@
+-- Cells with the opening, beside cells without it: the same but for the entry, as users know them. What each call does to the two. Assumes
+-- nothing.
+use Prim.Native.Nat.{ℕ, _≤_}
+use mathlib.Core.Path.{_≡_, refl, sym, ap, _∙_, subst}
+use mathlib.Core.Bool.{Bool, true, false, not, _&&_, cond}
+use mathlib.Core.Option.{Option, none, some}
+use mathlib.Core.List.{List}
+use lib.Dec.{T, ltb}
+use lib.ListN.{length}
+use Rattle.combine.specs.Verdict.{Said, isDone}
+use Rattle.combine.specs.Outcome.{Outcome}
+use Rattle.placing.specs.Sizes.{entryOf}
+use Rattle.image.specs.Image.{form1, imageb, tablesFrom}
+use Rattle.cells.specs.Says.{houseOf}
+use Rattle.rules.specs.Calls.{Request, abandons, Call, on}
+use Rattle.rules.specs.Headings.{isSome}
+use Rattle.rules.specs.House.{closedDown}
+use Rattle.cells.specs.Outcomes.{Lent}
+use Rattle.model.specs.Model.{Files, Model}
+use Rattle.model.specs.Step.{Report, report, step, stepTold}
+use Rattle.model.specs.View.{viewHouse, view, filesIn}
+use Rattle.proof_calls_sound.specs.Keeps.{keeps-sound}
+use Rattle.demands.specs.History.{outcomeOn, afterCall, toldOf, viewOn}
+use Rattle.demands.specs.Demands.{Sound}
+use Rattle.demands.specs.Abandoning.{isOn, ending, quiet, isLoad, isCount}
+use Rattle.proof_demand2.specs.Demand2.{demand2}
+use Rattle.proof_demand3.specs.Eased.{emptied}
+use Rattle.proof_demand3.specs.Own.{request-own, abandoned}
+use Rattle.proof_demand3.specs.Steps.{SameLook, Carried, step-another, step-alike}
+
+-- ---- what demand 2 says of a call, part by part
+
+module _ (c : Call) (x : Lent) (sound : Sound x) where
+  pub told-known : toldOf c x ≡ stepTold (filesIn (x .store)) c (viewOn x)
+  told-known = ap (λ (p : Report × Model). p .0) (demand2 c x sound)
+
+  pub answer-known : outcomeOn c x .answer ≡ step (filesIn (x .store)) c (viewOn x) .answer
+  answer-known = ap (λ (r : Report). r .answer) told-known
+
+  pub after-known : viewOn (afterCall c x) ≡ step (filesIn (x .store)) c (viewOn x) .after
+  after-known = ap (λ (p : Report × Model). p .1) (demand2 c x sound)
+
+-- whether an image is sound is seen by the store's length
+look-length : (s : List ℕ) (img : List ℕ) → isSome (filesIn s img) ≡ imageb form1 (length s) img
+unfolding filesIn
+look-length s img = go (imageb form1 (length s) img) (viewHouse s (houseOf (tablesFrom form1 img)))
+  where
+    go : (b : Bool) (f : Files) → isSome (cond {A = Option Files} b (some f) none) ≡ b
+    go true f = refl
+    go false f = refl
+
+cells-known : (x : Lent) → viewOn x .cells ≡ length (x .store)
+unfolding view
+cells-known x = refl
+
+same-look : (x y : Lent) → viewOn y .cells ≡ viewOn x .cells → SameLook (filesIn (x .store)) (filesIn (y .store))
+same-look x y e img =
+    look-length (y .store) img ∙ ap (λ (n : ℕ). imageb form1 n img) (sym (cells-known y) ∙ e ∙ cells-known x) ∙ sym (look-length (x .store) img)
+
+-- ---- with the opening at entry i, and without it
+
+pub record Beside (i : ℕ) (x y : Lent) : Type 0 where
+  pub with : Sound x
+  pub without : Sound y
+  pub seen : viewOn y ≡ emptied i (viewOn x)
+
+module _ (u e : ℕ) (x y : Lent) (b : Beside (entryOf u e) x y) where
+  abbrev i : ℕ
+  i = entryOf u e
+
+  looks : SameLook (filesIn (x .store)) (filesIn (y .store))
+  looks = same-look x y (ap (λ (m : Model). m .cells) (b .seen))
+
+  -- a call that is not the user's by the entry, and quiet: the cells afterwards are beside each other, and the same is told, but of a count
+  module _ (c : Call) (le : e ≤ 3) (other : isOn u e c ≡ false) (q : T (quiet u e c (outcomeOn c x .answer))) where
+    carries : Carried i c (filesIn (x .store)) (filesIn (y .store)) (viewOn x)
+    carries = step-another u e (filesIn (x .store)) (filesIn (y .store)) (viewOn x) c le looks other (subst (λ (a : Said). T (quiet u e c a)) (answer-known c x (b .with)) q)
+
+    pub another-beside : Beside i (afterCall c x) (afterCall c y)
+    another-beside = record {
+      with = keeps-sound c x (b .with);
+      without = keeps-sound c y (b .without);
+      seen = after-known c y (b .without) ∙ ap (λ (m : Model). step (filesIn (y .store)) c m .after) (b .seen) ∙ carries .after ∙ sym (ap (emptied i) (after-known c x (b .with)));
+    }
+
+    pub another-told : isCount c ≡ false → toldOf c x ≡ toldOf c y
+    another-told n =
+        told-known c x (b .with) ∙ sym (carries .told n) ∙ sym (ap (stepTold (filesIn (y .store)) c) (b .seen)) ∙ sym (told-known c y (b .without))
+
+  -- a call by the entry that does not end the opening
+  pub own-beside : (r : Request) → T (not (ending r && isDone (outcomeOn (on u e r) x .answer))) → Beside i (afterCall (on u e r) x) y
+  own-beside r t = record {
+    with = keeps-sound (on u e r) x (b .with);
+    without = b .without;
+    seen = b .seen ∙ sym (request-own u e (viewOn x) r (subst (λ (a : Said). T (not (ending r && isDone a))) (answer-known (on u e r) x (b .with)) t))
+        ∙ sym (ap (emptied i) (after-known (on u e r) x (b .with)));
+  }
+
+  -- the abandonment
+  pub abandoned-seen : T (not (ltb 7 u)) → T (not (ltb 3 e)) → viewOn (afterCall (on u e abandons) x) ≡ viewOn y
+  abandoned-seen hu he = after-known (on u e abandons) x (b .with) ∙ abandoned u e (viewOn x) hu he ∙ sym (b .seen)
+
+-- ---- cells of which users know the same
+
+module _ (x y : Lent) (sx : Sound x) (sy : Sound y) (seen : viewOn x ≡ viewOn y) (c : Call) (n : T (not (isLoad c && isDone (outcomeOn c x .answer)))) where
+  alike : step (filesIn (y .store)) c (viewOn x) ≡ step (filesIn (x .store)) c (viewOn x)
+  alike =
+      step-alike (filesIn (x .store)) (filesIn (y .store)) (viewOn x) c (same-look x y (ap (λ (m : Model). m .cells) (sym seen)))
+      (subst (λ (a : Said). T (not (isLoad c && isDone a))) (answer-known c x sx) n)
+
+  pub later-told : toldOf c x ≡ toldOf c y
+  later-told =
+      told-known c x sx ∙ sym (ap (λ (o : Outcome Model). report c (o .answer) (some (closedDown (viewOn x .house)))) alike)
+      ∙ ap (stepTold (filesIn (y .store)) c) seen ∙ sym (told-known c y sy)
+
+  pub later-seen : viewOn (afterCall c x) ≡ viewOn (afterCall c y)
+  later-seen =
+      after-known c x sx ∙ sym (ap (λ (o : Outcome Model). o .after) alike) ∙ ap (λ (m : Model). step (filesIn (y .store)) c m .after) seen ∙ sym (after-known c y sy)

@@ -1,0 +1,61 @@
+-- Calls one after another on a store and what its tables say, beside the same calls on cells. Assumes nothing.
+use mathlib.Core.Path.{_≡_, refl, ap, _∙_}
+use mathlib.Core.Bool.{Bool, true, not, _&&_}
+use mathlib.Core.List.{List, [], _∷_}
+use lib.Dec.{T}
+use Rattle.combine.specs.First.{firstBelow}
+use Rattle.combine.specs.Verdict.{refuse_when_else_}
+use Rattle.combine.specs.Outcome.{settle}
+use Rattle.names.specs.Names.{symbolsOf, nameOf, scratchName, isScratch}
+use Rattle.packing.specs.Packing.{field, putField, takeBits, putBits}
+use Rattle.placing.specs.Placing.{stretchOf, offsetOf, cellOf, bitOf, heldOf, listPlace}
+use Rattle.placing.specs.Sizes.{widthOf, elementsOf}
+use Rattle.store.specs.Store.{elementAt, putElement, zeroed, copied, segmentOf}
+use Rattle.rules.specs.Calls.{Call, fresh, save, load, count, on}
+use Rattle.rules.specs.Access.{writing, nexting, renaming}
+use Rattle.rules.specs.Rules.{lookUp, openNew, openedAs, openOld, headed, closing}
+use Rattle.rules.specs.Gates.{userGate, entryGate}
+use Rattle.segments.specs.Free.{isFree, lowestFree}
+use Rattle.segments.specs.Deeds.{target, prepared}
+use Rattle.segments.specs.State.{State, requestOnSegments}
+use Rattle.cells.specs.Outcomes.{Lent}
+use Rattle.cells.specs.Operator.{save-keeps-cells}
+use Rattle.cells.specs.Lowered.{stateOf}
+use Rattle.proof_calls_sound.specs.Starts.{count-keeps-cells}
+use Rattle.proof_calls_sound.specs.Agrees.{request-agrees}
+use Rattle.proof_calls_sound.specs.Keeps.{keeps-sound}
+use Rattle.proof_requests_sound.specs.Tests.{and-first, and-second}
+use Rattle.demands.specs.History.{afterCall, final}
+use Rattle.demands.specs.Demands.{Sound, starts}
+
+-- no fresh start, and no load
+abbrev pub goesOn : List Call → Bool
+goesOn [] = true
+goesOn (c ∷ cs) = not (starts c) && goesOn cs
+
+abbrev afterOne : Call → State → State
+afterOne fresh m = m
+afterOne (save img) m = m
+afterOne (load img) m = m
+afterOne (count u) m = m
+afterOne (on u e r) m = requestOnSegments r u e m .after
+
+-- what unfolds this unfolds every definition that it rests on
+unfoldable pub stateAfter : List Call → State → State
+unfolding firstBelow refuse_when_else_ settle symbolsOf nameOf scratchName isScratch field putField takeBits putBits stretchOf offsetOf cellOf bitOf heldOf listPlace widthOf elementsOf elementAt putElement zeroed copied segmentOf writing nexting renaming lookUp openNew openedAs openOld headed closing userGate entryGate isFree lowestFree target prepared
+stateAfter [] m = m
+stateAfter (c ∷ cs) m = stateAfter cs (afterOne c m)
+
+one-known : (c : Call) (x : Lent) → Sound x → T (not (starts c)) → stateOf (afterCall c x) ≡ afterOne c (stateOf x)
+one-known fresh x s n = absurd n
+one-known (save img) x s n = ap stateOf (save-keeps-cells (x .store) (x .tables) img)
+one-known (load img) x s n = absurd n
+one-known (count u) x s n = ap stateOf (count-keeps-cells (x .store) (x .tables) u)
+one-known (on u e r) x s n = request-agrees r (x .store) (x .tables) u e s .after
+
+pub state-known : (cs : List Call) (x : Lent) → Sound x → T (goesOn cs) → stateOf (final cs x) ≡ stateAfter cs (stateOf x)
+unfolding stateAfter
+state-known [] x s n = refl
+state-known (c ∷ cs) x s n =
+    state-known cs (afterCall c x) (keeps-sound c x s) (and-second (not (starts c)) (goesOn cs) n)
+    ∙ ap (stateAfter cs) (one-known c x s (and-first (not (starts c)) (goesOn cs) n))

@@ -1,0 +1,96 @@
+-- The premises of demand 3, decided on the state as its users know it, for a story in which no image is loaded. Assumes nothing.
+use Prim.Native.Nat.{ℕ}
+use mathlib.Core.Path.{_≡_, refl, sym, ap, _∙_, subst}
+use mathlib.Core.Bool.{Bool, true, false, not, _&&_}
+use mathlib.Core.Option.{none}
+use mathlib.Core.List.{List, [], _∷_}
+use lib.Dec.{T}
+use Rattle.combine.specs.Verdict.{Said, isDone}
+use Rattle.combine.specs.Outcome.{Outcome}
+use Rattle.rules.specs.Calls.{Call, fresh, save, load, count, on}
+use Rattle.cells.specs.Outcomes.{Lent}
+use Rattle.model.specs.Model.{Model}
+use Rattle.model.specs.Step.{step}
+use Rattle.model.specs.View.{filesIn}
+use Rattle.proof_calls_sound.specs.Keeps.{keeps-sound}
+use Rattle.proof_requests_sound.specs.Tests.{and-first, and-second}
+use Rattle.demands.specs.History.{outcomeOn, afterCall, viewOn, final}
+use Rattle.demands.specs.Demands.{Sound}
+use Rattle.demands.specs.Abandoning.{quiet, Quiet, isLoad, NoLoad, Story, opening, Abandoned}
+use Rattle.proof_demand3.specs.Steps.{Look}
+use Rattle.proof_demand3.specs.Beside.{answer-known, after-known}
+
+-- no image is looked at
+abbrev pub blind : Look
+blind img = none
+
+abbrev pub noLoadb : List Call → Bool
+noLoadb [] = true
+noLoadb (c ∷ cs) = not (isLoad c) && noLoadb cs
+
+abbrev pub knownAfter : List Call → Model → Model
+knownAfter [] m = m
+knownAfter (c ∷ cs) m = knownAfter cs (step blind c m .after)
+
+abbrev pub quietb : ℕ → ℕ → List Call → Model → Bool
+quietb u e [] m = true
+quietb u e (c ∷ cs) m = quiet u e c (step blind c m .answer) && quietb u e cs (step blind c m .after)
+
+-- ---- one call
+
+step-blind : (f : Look) (c : Call) (m : Model) → T (not (isLoad c)) → step f c m ≡ step blind c m
+step-blind f fresh m n = refl
+step-blind f (save img) m n = refl
+step-blind f (load img) m n = absurd n
+step-blind f (count u) m n = refl
+step-blind f (on u e r) m n = refl
+
+module _ (c : Call) (x : Lent) (s : Sound x) (n : T (not (isLoad c))) where
+  pub answer-blind : outcomeOn c x .answer ≡ step blind c (viewOn x) .answer
+  answer-blind = answer-known c x s ∙ ap (λ (o : Outcome Model). o .answer) (step-blind (filesIn (x .store)) c (viewOn x) n)
+
+  pub after-blind : viewOn (afterCall c x) ≡ step blind c (viewOn x) .after
+  after-blind = after-known c x s ∙ ap (λ (o : Outcome Model). o .after) (step-blind (filesIn (x .store)) c (viewOn x) n)
+
+-- ---- histories
+
+final-known : (cs : List Call) (x : Lent) → Sound x → T (noLoadb cs) → (viewOn (final cs x) ≡ knownAfter cs (viewOn x)) × Sound (final cs x)
+final-known [] x s n = (refl, s)
+final-known (c ∷ cs) x s n =
+    let one = and-first (not (isLoad c)) (noLoadb cs) n in
+    let r = final-known cs (afterCall c x) (keeps-sound c x s) (and-second (not (isLoad c)) (noLoadb cs) n) in
+    (r .0 ∙ ap (knownAfter cs) (after-blind c x s one), r .1)
+
+quiet-known : (u e : ℕ) (cs : List Call) (x : Lent) → Sound x → T (noLoadb cs) → T (quietb u e cs (viewOn x)) → Quiet u e cs x
+quiet-known u e [] x s n q = tt
+quiet-known u e (c ∷ cs) x s n q =
+    let one = and-first (not (isLoad c)) (noLoadb cs) n in
+    let a = step blind c (viewOn x) .answer in
+    let m = step blind c (viewOn x) .after in (
+      subst (λ (b : Said). T (quiet u e c b)) (sym (answer-blind c x s one)) (and-first (quiet u e c a) (quietb u e cs m) q),
+      quiet-known u e cs (afterCall c x) (keeps-sound c x s) (and-second (not (isLoad c)) (noLoadb cs) n)
+          (subst (λ (k : Model). T (quietb u e cs k)) (sym (after-blind c x s one)) (and-second (quiet u e c a) (quietb u e cs m) q)),
+    )
+
+never-load : (cs : List Call) (x : Lent) → T (noLoadb cs) → NoLoad cs x
+never-load [] x n = tt
+never-load (c ∷ cs) x n = (go (isLoad c) _ (and-first (not (isLoad c)) (noLoadb cs) n), never-load cs (afterCall c x) (and-second (not (isLoad c)) (noLoadb cs) n))
+  where
+    go : (a b : Bool) → T (not a) → T (not (a && b))
+    go true b t = absurd t
+    go false b t = tt
+
+-- ---- the story
+
+pub abandoned-known : (h : Story) (x : Lent) → Sound x → T (noLoadb (h .before)) → T (noLoadb (h .between)) → T (noLoadb (h .later))
+    → let m = knownAfter (h .before) (viewOn x) in
+    T (isDone (step blind (opening h) m .answer)) → T (quietb (h .user) (h .entry) (h .between) (step blind (opening h) m .after)) → Abandoned h x
+abandoned-known h x s nb nc nd o q =
+    let k = final-known (h .before) x s nb in
+    let y = final (h .before) x in
+    record {
+      opened = subst (λ (a : Said). T (isDone a)) (sym (answer-blind (opening h) y (k .1) tt ∙ ap (λ (m : Model). step blind (opening h) m .answer) (k .0))) o;
+      quietly = quiet-known (h .user) (h .entry) (h .between) (afterCall (opening h) y) (keeps-sound (opening h) y (k .1)) nc
+          (subst (λ (m : Model). T (quietb (h .user) (h .entry) (h .between) m)) (sym (after-blind (opening h) y (k .1) tt ∙ ap (λ (m : Model). step blind (opening h) m .after) (k .0))) q);
+      noLoad = never-load (h .later) _ nd;
+    }

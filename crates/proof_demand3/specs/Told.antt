@@ -1,0 +1,70 @@
+-- A story to which demand 3 is applied: user 2's file of 64 elements is opened for work, its first element is replaced (the record's segment is
+-- copied), an append begins another stretch, and it is renamed, while user 3 makes and closes a file; then it is abandoned. Assumes nothing.
+use Prim.Native.Nat.{ℕ}
+use mathlib.Core.Path.{_≡_, refl, sym, subst}
+use mathlib.Core.Bool.{true, false}
+use mathlib.Core.List.{List, [], _∷_, _++_}
+use lib.Dec.{T}
+use lib.ListN.{length, replicate}
+use Rattle.combine.specs.Verdict.{isDone}
+use Rattle.placing.specs.Sizes.{tablesLength}
+use Rattle.rules.specs.Calls.{new, work, read, rename, write, next, opens, closes, uses, Call, fresh, count, on}
+use Rattle.cells.specs.Outcomes.{lent}
+use Rattle.model.specs.Model.{Model}
+use Rattle.model.specs.Step.{step}
+use Rattle.demands.specs.History.{afterCall, viewOn}
+use Rattle.demands.specs.Abandoning.{Story, opening, Abandoned, NoTrace}
+use Rattle.proof_demand3.specs.Premises.{blind, knownAfter, quietb, abandoned-known}
+use Rattle.proof_demand3.specs.Demand3.{demand3}
+use Rattle.proof_demand3.specs.Started.{nothingThere, fresh-leaves-sound, fresh-leaves-nothing}
+use Rattle.proof_demand3.specs.Answers.{answersKnown}
+
+-- ---- the story
+
+abbrev fileA : List ℕ
+fileA = 97 ∷ []
+
+abbrev fileC : List ℕ
+fileC = 99 ∷ []
+
+-- position 64 is the last of the first stretch
+abbrev filled : List Call
+filled = on 2 0 (opens (new 5)) ∷ (replicate 64 (on 2 0 (uses (write 1 5))) ++ on 2 0 (uses (rename fileA)) ∷ on 2 0 (closes false) ∷ [])
+
+abbrev pub storyAfter : List Call → Story
+storyAfter before = record {
+  before = before;
+  user = 2;
+  entry = 0;
+  way = work fileA;
+  between = on 2 0 (uses (write 2 99)) ∷ on 3 1 (opens (new 3)) ∷ on 2 0 (uses (write 1 7)) ∷ on 3 1 (uses (write 1 6)) ∷ count 3
+      ∷ on 2 0 (uses (rename (98 ∷ []))) ∷ on 3 1 (uses (rename fileC)) ∷ on 3 1 (closes true) ∷ [];
+  later = on 2 1 (opens (read fileA)) ∷ on 2 1 (uses (next 2)) ∷ on 2 0 (opens (read fileC)) ∷ on 2 0 (uses (next 2)) ∷ count 2 ∷ [];
+}
+
+-- ---- on the state as its users know it, after a fresh start over 1,024 cells
+
+well : T (isDone (step blind (opening (storyAfter filled)) (knownAfter filled (nothingThere 1024)) .answer))
+unfolding answersKnown
+well = tt
+
+quietly : T (quietb 2 0 (storyAfter filled .between) (step blind (opening (storyAfter filled)) (knownAfter filled (nothingThere 1024)) .after))
+unfolding answersKnown
+quietly = tt
+
+-- ---- on any cells
+
+module _ (s t : List ℕ) (cells : length s ≡ 1024) (long : length t ≡ tablesLength) where
+  starts : viewOn (afterCall fresh (lent s t)) ≡ nothingThere 1024
+  starts = fresh-leaves-nothing s t 1024 cells refl long
+
+  -- the premises of demand 3 are met
+  pub premises : Abandoned (storyAfter (fresh ∷ filled)) (lent s t)
+  premises =
+      let a = abandoned-known (storyAfter filled) (afterCall fresh (lent s t)) (fresh-leaves-sound s t 1024 cells refl long) tt tt tt
+      (subst (λ (m : Model). T (isDone (step blind (opening (storyAfter filled)) (knownAfter filled m) .answer))) (sym starts) well)
+      (subst (λ (m : Model). T (quietb 2 0 (storyAfter filled .between) (step blind (opening (storyAfter filled)) (knownAfter filled m) .after))) (sym starts) quietly) in
+      record { opened = a .opened; quietly = a .quietly; noLoad = a .noLoad }
+
+  pub no-trace : NoTrace (storyAfter (fresh ∷ filled)) (lent s t)
+  no-trace = demand3 (storyAfter (fresh ∷ filled)) (lent s t) premises

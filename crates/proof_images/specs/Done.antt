@@ -1,0 +1,77 @@
+-- What a save and a load that are done leave. Assumes nothing.
+use Prim.Native.Nat.{ℕ, _*_, _≤_}
+use mathlib.Core.Path.{_≡_, refl, sym, ap, _∙_}
+use mathlib.Core.Bool.{true}
+use mathlib.Core.List.{List}
+use native.Mathlib.Omega.{arith}
+use lib.ListN.{length}
+use borrow.Author.Tests.{eq-eqb, eqb-true, le-leb, leb-true}
+use Rattle.combine.specs.Rows.{each-of, all-good}
+use Rattle.combine.specs.Verdict.{done, refuse_when_else_}
+use Rattle.combine.specs.Outcome.{outcomeOf, settle}
+use Rattle.placing.specs.Sizes.{segmentCells, tablesLength}
+use Rattle.rules.specs.Gates.{startGate, imageGate}
+use Rattle.tables.specs.Layout.{segmentsIn}
+use Rattle.tables.specs.Sound.{numberb, soundb, ranged-of}
+use Rattle.image.specs.Image.{form1, imageLength, imageOf, headField, tablesFrom, imageb}
+use Rattle.cells.specs.Outcomes.{lent, loadOut, saved, saveOut}
+use Rattle.proof_images.specs.Closed.{closed}
+use Rattle.proof_images.specs.Sound.{closed-sound}
+use Rattle.image_code.specs.Fits.{records-fit}
+use Rattle.proof_images.specs.Images.{image-field, image-length, tables-again}
+
+-- "A number fits a store of at least 64 times as many cells", and there is one segment at least
+room : (cells : ℕ) (t : List ℕ) → soundb cells t ≡ true → segmentCells ≤ cells
+unfolding soundb numberb
+room cells t ok =
+    let n = each-of _ (each-of _ ok .1 .1 .1 .1 .0) in
+    let some = leb-true 1 (segmentsIn t) (n .0) in
+    let fit = leb-true (segmentCells * segmentsIn t) cells (n .1 .1 .0) in
+    omega arith
+
+-- what a sound image says
+pub record SoundImage (cells : ℕ) (img : List ℕ) : Type 0 where
+  pub long : length img ≡ imageLength form1
+  pub form : headField img 0 ≡ 1
+  pub zeros : headField img 2 ≡ 0
+  pub sound : soundb cells (tablesFrom form1 img) ≡ true
+
+pub imageb-facts : (cells : ℕ) (img : List ℕ) → imageb form1 cells img ≡ true → SoundImage cells img
+unfolding imageb
+imageb-facts cells img ok =
+    let f = each-of _ ok in
+    record {
+      long = eqb-true (length img) (imageLength form1) (f .0);
+      form = eqb-true (headField img 0) 1 (f .1 .0);
+      zeros = eqb-true (headField img 2) 0 (f .1 .1 .0);
+      sound = f .1 .1 .1 .0;
+    }
+
+pub save-done : (s t img : List ℕ) → soundb (length s) t ≡ true → length img ≡ imageLength form1 → saveOut s t img ≡ outcomeOf (done 0) (saved s t (imageOf form1 t))
+unfolding saveOut imageGate startGate refuse_when_else_ settle
+save-done s t img ok l = rw (ok, eq-eqb (length img) (imageLength form1) l) refl
+
+pub load-done : (s t img : List ℕ) → length t ≡ tablesLength → imageb form1 (length s) img ≡ true → loadOut s t img ≡ outcomeOf (done 0) (lent s (tablesFrom form1 img))
+unfolding loadOut imageGate startGate refuse_when_else_ settle
+load-done s t img l ok =
+    rw (eq-eqb (length t) tablesLength l, le-leb 64 (length s) (room (length s) (tablesFrom form1 img) (imageb-facts (length s) img ok .sound)), ok) refl
+
+-- ---- the image of sound tables
+
+module _ (cells : ℕ) (t : List ℕ) (ok : soundb cells t ≡ true) where
+  pub saved-again : tablesFrom form1 (imageOf form1 t) ≡ closed t
+  saved-again =
+      let r = ranged-of cells t ok in
+      tables-again t (r .0) (omega (arith, r .3)) (records-fit t r)
+
+  pub saved-sound : imageb form1 cells (imageOf form1 t) ≡ true
+  unfolding imageb
+  saved-sound =
+      let few = ranged-of cells t ok .3 in
+      sym (all-good _ (
+        eq-eqb (length (imageOf form1 t)) (imageLength form1) (image-length t),
+        (
+          eq-eqb (headField (imageOf form1 t) 0) 1 (image-field t (omega arith) 0),
+          (eq-eqb (headField (imageOf form1 t) 2) 0 (image-field t (omega arith) 2), (ap (soundb cells) saved-again ∙ closed-sound cells t ok, tt)),
+        ),
+      ))

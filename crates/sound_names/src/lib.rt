@@ -1,0 +1,169 @@
+// "No two records of one owner have one name; no two public records have one name."
+ghost use mathlib.Core.Path.{_≡_};
+ghost use mathlib.Core.Bool.{true};
+ghost use Prim.Native.Nat.{ℕ, _+_, _-_, _≤_, _<_};
+ghost use lib.ListN.{length};
+ghost use Rattle.combine.specs.Below.{allBelow};
+ghost use Rattle.placing.specs.Sizes.{places, tablesLength};
+ghost use Rattle.tables.specs.Layout.{recordOf, recordAt};
+ghost use Rattle.tables.specs.Fields.{isUsed};
+ghost use Rattle.tables.specs.Records.{clash, aloneb};
+ghost use Rattle.sound_names.specs.Keys.{keyOf, shortOf, publicOf, kinb, newb, apartb, Spelled, Halved, Keyed};
+
+fn wide(cell: u32) -> u64
+    ensures { λ r. ⌜ (r ≡ cell) × (r < 4294967296) ⌝ }
+{
+    cell as u64
+}
+
+// Six symbols of a used record's name, from cell `at` of its row on, as one number after a 1; 0 for an unused record.
+fn key(row: &[u32], at: usize) -> u64
+    requires { ⌜ (length (now row) ≡ 50) × (1 ≤ at) × (at ≤ 7) ⌝ }
+    ensures { λ r. ⌜ r ≡ keyOf (recordOf (now (row .entry))) (at - 1) ⌝ }
+{
+    if row[0] == 0 {
+        return 0;
+    }
+    let two = (64 + wide(row[at])) * 64 + wide(row[at + 1]);
+    let four = (two * 64 + wide(row[at + 2])) * 64 + wide(row[at + 3]);
+    (four * 64 + wide(row[at + 4])) * 64 + wide(row[at + 5])
+}
+
+// A number of 32 bits for two keys and an owner: records of one name and one owner have the same, and others seldom. A key of
+// six symbols is below 2^37, so that no bit of it is lost, and each one reaches the 32 that are taken from the middle of the
+// product, which is below 2^64. The factor 4099, above 64^2, keeps a change of the high key's last two symbols from cancelling
+// with one of the low key. The owner's three bits are added at the top, so that one name with two owners never has one number.
+fn short(high: u64, low: u64, owner: u32) -> u32
+    ensures { λ r. ⌜ r ≡ shortOf high low owner ⌝ }
+{
+    let sum = high % 137438953472 + 4099 * (low % 137438953472);
+    ((sum * 32719 / 256 + wide(owner % 8) * 536870912) % 4294967296) as u32
+}
+
+// One for two keys alone, as public records of one name clash whoever owns them; 0 for a private record, which clashes with
+// its own owner's only.
+fn public_short(high: u64, low: u64, private: u32) -> u32
+    ensures { λ r. ⌜ r ≡ publicOf high low private ⌝ }
+{
+    if private == 0 {
+        return short(high, low, 0);
+    }
+    0
+}
+
+// Of one owner, or both public.
+fn kin(left: &[u32], right: &[u32]) -> bool
+    requires { ⌜ (length (now left) ≡ 50) × (length (now right) ≡ 50) ⌝ }
+    ensures { λ r. ⌜ r ≡ kinb (recordOf (now (left .entry))) (recordOf (now (right .entry))) ⌝ }
+{
+    if left[13] == right[13] {
+        return true;
+    }
+    if left[14] != 0 {
+        return false;
+    }
+    right[14] == 0
+}
+
+// Whether the used record at place p clashes with the one at place q before it. Names that agree at all mostly agree at
+// their beginning, so that the later half is compared first.
+fn clashes(tables: &[u32], high: &[u64; 64], low: &[u64; 64], p: usize, q: usize) -> bool
+    requires { ⌜ Halved (now tables) (now high) (now low) (p + 1) × (q < p) × (isUsed (recordAt (now tables) p) ≡ true) ⌝ }
+    ensures { λ r. ⌜ r ≡ clash (recordAt (now (tables .entry)) p) (recordAt (now (tables .entry)) q) ⌝ }
+{
+    if low[p] != low[q] {
+        return false;
+    }
+    if high[p] != high[q] {
+        return false;
+    }
+    let here = 1 + 50 * p;
+    let beyond = here + 50;
+    let there = 1 + 50 * q;
+    let after = there + 50;
+    kin(&tables[here..beyond], &tables[there..after])
+}
+
+// Whether the short key at place p is new there.
+fn is_new(shorts: &[u32], p: usize) -> bool
+    requires { ⌜ (length (now shorts) ≡ places) × (p < places) ⌝ }
+    ensures { λ r. ⌜ r ≡ newb (now (shorts .entry)) p ⌝ }
+{
+    !combine::lists(&shorts[0..p], shorts[p])
+}
+
+// Whether the short keys tell the record at place p from all before it. They are asked from place 16 on: fewer records are
+// compared one by one in less time than two rows are searched.
+fn apart(owned: &[u32], public: &[u32], private: u32, p: usize) -> bool
+    requires { ⌜ (length (now owned) ≡ places) × (length (now public) ≡ places) × (p < places) ⌝ }
+    ensures { λ r. ⌜ r ≡ apartb (now (owned .entry)) (now (public .entry)) private p ⌝ }
+{
+    if p < 16 {
+        return false;
+    }
+    if !is_new(owned, p) {
+        return false;
+    }
+    if private != 0 {
+        return true;
+    }
+    is_new(public, p)
+}
+
+fn alone(
+    tables: &[u32],
+    high: &[u64; 64],
+    low: &[u64; 64],
+    owned: &[u32],
+    public: &[u32],
+    p: usize,
+) -> bool
+    requires { ⌜ Keyed (now tables) (now high) (now low) (now owned) (now public) (p + 1) × (isUsed (recordAt (now tables) p) ≡ true) ⌝ }
+    ensures { λ r. ⌜ r ≡ aloneb (now (tables .entry)) p ⌝ }
+{
+    // Records that clash have one short key: where no record before has it, none is compared one by one.
+    if apart(owned, public, tables[15 + 50 * p], p) {
+        return true;
+    }
+    let mut q = 0;
+    while q < p {
+        if clashes(tables, high, low, p, q) {
+            return false;
+        }
+        q += 1;
+    }
+    true
+}
+
+// Whether no two records have names that clash. The keys of each record are made once, when its place is reached; an unused
+// record is passed over, as its keys are 0 from the start.
+pub fn names_sound(tables: &[u32]) -> bool
+    requires { ⌜ (length (now tables) ≡ tablesLength) × ((p : ℕ) → p < places → Spelled (recordAt (now tables) p)) ⌝ }
+    ensures { λ r. ⌜ r ≡ allBelow places (aloneb (now (tables .entry))) ⌝ }
+{
+    let mut high = [0u64; 64];
+    let mut low = [0u64; 64];
+    let mut owned = [0u32; 64];
+    let mut public = [0u32; 64];
+    let mut p = 0;
+    while p < 64 {
+        let from = 1 + 50 * p;
+        if tables[from] == 0 {
+            p += 1;
+            continue;
+        }
+        let to = from + 50;
+        let row = &tables[from..to];
+        let first = key(row, 1);
+        let second = key(row, 7);
+        high[p] = first;
+        low[p] = second;
+        owned[p] = short(first, second, row[13]);
+        public[p] = public_short(first, second, row[14]);
+        if !alone(tables, &high, &low, &owned, &public, p) {
+            return false;
+        }
+        p += 1;
+    }
+    true
+}

@@ -1,0 +1,58 @@
+-- Fields of an opening's row of 56 cells, and of a record's row of 50, by cells. Assumes nothing.
+use Prim.Native.Nat.{ℕ, _+_, _≤_, _<_}
+use mathlib.Core.Path.{_≡_, sym, ap, _∙_}
+use mathlib.Core.Bool.{Bool}
+use mathlib.Core.List.{List, map}
+use native.Mathlib.Omega.{arith}
+use lib.Dec.{eqb, leb, ltb, leb·suc-suc}
+use lib.ListN.{length, getD}
+use Rattle.combine.specs.Below.{allBelow, all-cong}
+use Rattle.combine.specs.Lists.{part, same}
+use Rattle.combine.specs.Parts.{length-part, getD-part}
+use Rattle.combine.specs.Same.{same-all}
+use Rattle.placing.specs.Sizes.{mostHeld, greatestEnd}
+use Rattle.placing.specs.Placing.{segment}
+use Rattle.tables.specs.Layout.{openingOf}
+use Rattle.tables.specs.Fields.{valueOf, numberAt}
+use Rattle.sound_extents.specs.Numbers.{segment-number, position-number}
+use Rattle.sound_extents.specs.Slices.{sliced, allCells, all-slice}
+
+-- a pointer's value
+pub value-cell : (c : List ℕ) (p : ℕ) → p < 8 → valueOf (openingOf c) p ≡ getD c (4 + p) 0
+unfolding openingOf valueOf
+value-cell c p h = position-number (part c 4 8) p ∙ getD-part c 4 8 p h
+
+-- a test of it
+pub value-test : (c : List ℕ) (p x : ℕ) (b : Bool) → p < 8 → eqb (getD c (4 + p) 0) x ≡ b → eqb (valueOf (openingOf c) p) x ≡ b
+value-test c p x b h e = ap (λ (v : ℕ). eqb v x) (value-cell c p h) ∙ e
+
+-- what is computed of the species, the begin and the end
+pub extent-cells : {A : Type 0} (f : ℕ → ℕ → ℕ → A) (c : List ℕ) → f (getD c 3 0) (getD c 4 0) (getD c 5 0) ≡ f (openingOf c .species) (valueOf (openingOf c) 0) (valueOf (openingOf c) 1)
+unfolding openingOf
+extent-cells f c = sym (λ i. f (getD c 3 0) (value-cell c 0 (omega arith) i) (value-cell c 1 (omega arith) i))
+
+-- a segment number of a list of 32 that starts at cell a
+pub number-cell : (c : List ℕ) (a k : ℕ) → k < mostHeld → numberAt (map segment (part c a mostHeld)) k ≡ getD c (a + k) 0
+number-cell c a k h = segment-number (part c a mostHeld) k ∙ getD-part c a mostHeld k h
+
+-- the lists of two rows
+pub same-numbers : (c d : List ℕ) (a b : ℕ) → a + mostHeld ≤ length c → b + mostHeld ≤ length d
+    → same (part c a mostHeld) (part d b mostHeld) ≡ allBelow mostHeld (λ k. eqb (numberAt (map segment (part c a mostHeld)) k) (numberAt (map segment (part d b mostHeld)) k))
+same-numbers c d a b hc hd =
+    let x : List ℕ = part c a mostHeld in
+    let y : List ℕ = part d b mostHeld in
+    let lx : length x ≡ mostHeld = length-part c a mostHeld hc in
+    let ly : length y ≡ mostHeld = length-part d b mostHeld hd in
+    same-all x y (lx ∙ sym ly)
+    ∙ ap (λ (n : ℕ). allBelow n (λ k. eqb (getD x k 0) (getD y k 0))) lx
+    ∙ sym (all-cong (λ k. eqb (numberAt (map segment x) k) (numberAt (map segment y) k)) (λ k. eqb (getD x k 0) (getD y k 0)) mostHeld (λ k _ i. eqb (segment-number x k i) (segment-number y k i)))
+
+-- "the values of pointers 2 to 7 .. are 1 to the greatest end value"
+pub values-below : (c : List ℕ) → length c ≡ 56 → allCells (λ x. ltb x 16777216) (sliced c 6 12) ≡ allBelow 6 (λ k. leb (valueOf (openingOf c) (2 + k)) greatestEnd)
+values-below c l = all-slice (λ x. ltb x 16777216) (λ k. leb (valueOf (openingOf c) (2 + k)) greatestEnd) c 6 12 6 (omega arith) (omega arith) at
+  where
+    at : (k : ℕ) → k < 6 → ltb (getD c (6 + k) 0) 16777216 ≡ leb (valueOf (openingOf c) (2 + k)) greatestEnd
+    at k h =
+        let e : 6 + k ≡ 4 + (2 + k) = omega arith in
+        leb·suc-suc (getD c (6 + k) 0) greatestEnd
+        ∙ ap (λ (x : ℕ). leb x greatestEnd) (ap (λ (j : ℕ). getD c j 0) e ∙ sym (value-cell c (2 + k) (omega arith)))

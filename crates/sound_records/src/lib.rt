@@ -1,0 +1,72 @@
+// Whether the records of lent tables are sound.
+use placing::Position;
+ghost use mathlib.Core.Path.{_≡_};
+ghost use lib.ListN.{length};
+ghost use Rattle.combine.specs.Below.{allBelow};
+ghost use Rattle.placing.specs.Sizes.{places, tablesLength};
+ghost use Rattle.tables.specs.Layout.{recordOf, recordAt};
+ghost use Rattle.tables.specs.Records.{usedb, recordb, recordsb};
+
+fn used_sound(cells: &[u32], segments: u32) -> bool
+    requires { ⌜ length (now cells) ≡ 50 ⌝ }
+    ensures { λ r. ⌜ r ≡ usedb segments (recordOf (now (cells .entry))) ⌝ }
+{
+    if cells[0] != 1 {
+        return false;
+    }
+    if !names::name_sound(&cells[1..13]) {
+        return false;
+    }
+    if cells[13] > 7 {
+        return false;
+    }
+    if cells[14] > 1 {
+        return false;
+    }
+    let species = cells[15];
+    let begin = cells[16];
+    let end = cells[17];
+    if !sound_extents::extent_sound(species, begin, end) {
+        return false;
+    }
+    let held = placing::held(species, Position::of(begin), Position::of(end));
+    sound_extents::list_sound(&cells[18..50], held as usize, segments)
+}
+
+// Whether the 50 cells of a record are sound in tables of so many segments.
+pub fn record_sound(cells: &[u32], segments: u32) -> bool
+    requires { ⌜ length (now cells) ≡ 50 ⌝ }
+    ensures { λ r. ⌜ r ≡ recordb segments (recordOf (now (cells .entry))) ⌝ }
+{
+    if cells[0] == 0 {
+        return combine::all_zero(cells);
+    }
+    used_sound(cells, segments)
+}
+
+fn each_sound(tables: &[u32], segments: u32) -> bool
+    requires { ⌜ length (now tables) ≡ tablesLength ⌝ }
+    ensures { λ r. ⌜ r ≡ allBelow places (λ p. recordb segments (recordAt (now (tables .entry)) p)) ⌝ }
+{
+    let mut p = 0;
+    while p < 64 {
+        let from = 1 + 50 * p;
+        let to = from + 50;
+        if !record_sound(&tables[from..to], segments) {
+            return false;
+        }
+        p += 1;
+    }
+    true
+}
+
+// Whether all records are sound, and no two names clash.
+pub fn records_sound(tables: &[u32], segments: u32) -> bool
+    requires { ⌜ length (now tables) ≡ tablesLength ⌝ }
+    ensures { λ r. ⌜ r ≡ recordsb (now (tables .entry)) segments ⌝ }
+{
+    if !each_sound(tables, segments) {
+        return false;
+    }
+    sound_names::names_sound(tables)
+}

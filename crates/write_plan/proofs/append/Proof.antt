@@ -1,0 +1,45 @@
+use borrow.Author.Needs.{needs}
+use Rattle.write_plan.proofs.Decides.{appends}
+use Rattle.write_plan.proofs.append.Statement.{statement}
+use Rattle.write_plan.proofs.append.Tie as tie
+
+value-requires : tie.Need-value-requires
+value-requires c κs = search needs
+
+returns : tie.Need-returns
+returns c = search appends
+
+add-of : tie.Need-add-of
+add-of c = search needs
+
+of-requires : tie.Need-of-requires
+of-requires c κs = search needs
+
+step-requires : tie.Need-step-requires
+step-requires c κs = search needs
+
+holds-requires : tie.Need-holds-requires
+holds-requires c κs = search appends
+
+returns-2 : tie.Need-returns-2
+returns-2 c = search appends
+
+seat-requires : tie.Need-seat-requires
+seat-requires c κs = (search needs, search appends)
+
+returns-3 : tie.Need-returns-3
+returns-3 c = search appends
+
+pub append-spec : {M : Type 1} → statement M
+append-spec =
+    tie.close
+    (tie.spec
+    value-requires
+    returns
+    add-of
+    of-requires
+    step-requires
+    holds-requires
+    returns-2
+    seat-requires
+    returns-3)
