@@ -1,8 +1,5 @@
 -- An answer in document 01's numbers. Assumes nothing.
-use Prim.Native.Nat.{ℕ, _-_}
-use mathlib.Core.Path.{_≡_, refl, sym, ap, _∙_}
-use mathlib.Core.List.{[], _∷_}
-use lib.ListN.{getD}
+use Prim.Native.Nat.{ℕ}
 use Rattle.answers.specs.declared.Refusal.{Refusal}
 use Rattle.answers.specs.declared.Refusal.the-variants as R
 use Rattle.answers.specs.declared.Answer.{Answer}
@@ -60,45 +57,3 @@ refusalNumber R.Image = 22
 abbrev pub said : Answer → Said
 said (Done n) = done n
 said (Refused r) = refused (refusalNumber r)
-
--- ---- there is one answer that says it
-
-refusalOf : ℕ → Refusal
-refusalOf n = getD (R.User ∷ R.Entry ∷ R.Open ∷ R.Pointer ∷ R.Permit ∷ R.Below ∷ R.Beyond ∷ R.Segments ∷ R.Room ∷ R.Positions ∷ R.Unknown ∷ R.NotYours ∷ R.NoWork ∷ R.NotNow ∷ R.Empty ∷ R.Taken ∷ R.Place ∷ R.Public ∷ R.Species ∷ R.Tables ∷ R.Pointers ∷ R.Image ∷ []) (n - 1) R.User
-
-refusal-of : (r : Refusal) → refusalOf (refusalNumber r) ≡ r
-unfolding refusalOf
-refusal-of R.User = refl
-refusal-of R.Entry = refl
-refusal-of R.Open = refl
-refusal-of R.Pointer = refl
-refusal-of R.Permit = refl
-refusal-of R.Below = refl
-refusal-of R.Beyond = refl
-refusal-of R.Segments = refl
-refusal-of R.Room = refl
-refusal-of R.Positions = refl
-refusal-of R.Unknown = refl
-refusal-of R.NotYours = refl
-refusal-of R.NoWork = refl
-refusal-of R.NotNow = refl
-refusal-of R.Empty = refl
-refusal-of R.Taken = refl
-refusal-of R.Place = refl
-refusal-of R.Public = refl
-refusal-of R.Species = refl
-refusal-of R.Tables = refl
-refusal-of R.Pointers = refl
-refusal-of R.Image = refl
-
-answerOf : Said → Answer
-answerOf (done n) = Done n
-answerOf (refused n) = Refused (refusalOf n)
-
-answer-of : (a : Answer) → answerOf (said a) ≡ a
-unfolding answerOf
-answer-of (Done n) = refl
-answer-of (Refused r) = ap Refused (refusal-of r)
-
-pub one-answer : (a b : Answer) → said a ≡ said b → a ≡ b
-one-answer a b e = sym (answer-of a) ∙ ap answerOf e ∙ answer-of b

@@ -7,7 +7,8 @@ use native.Mathlib.Omega.{arith}
 use lib.Dec.{eqb}
 use lib.ListN.{length}
 use borrow.Author.Tests.{eq-eqb, ne-eqb}
-use Rattle.combine.specs.Verdict.{Verdict, refused, onDone, refused-here, went-on}
+use Rattle.combine.specs.Verdict.{Verdict, refused, onDone}
+use Rattle.combine.specs.laws.Verdict.{refused-here, went-on}
 use Rattle.combine.specs.Outcome.{outcomeOf, settle}
 use Rattle.answers.specs.declared.Refusal.{Refusal}
 use Rattle.answers.specs.declared.Answer.the-variants.{Done, Refused}
@@ -17,15 +18,15 @@ use Rattle.placing.specs.Placing.{claimOf}
 use Rattle.rules.specs.Calls.{Act, uses, askSpecies, askClaim, askPermit, askSymbol, askBegin, askEnd, askValue}
 use Rattle.rules.specs.Headings.{value}
 use Rattle.rules.specs.Effects.{Use}
-use Rattle.rules.specs.Access.{asked, valuing}
+use Rattle.rules.specs.Access.{asked, valueRule}
 use Rattle.tables.specs.Layout.{openingAt, putOpening}
 use Rattle.tables.specs.Fields.{isOpen}
 use Rattle.tables.specs.Handles.{handleIn, carried}
-use Rattle.tables.specs.Rows.{put-opening-again}
-use Rattle.tables.specs.Sound.{ranged-of}
-use Rattle.tables.specs.OpeningFacts.{SoundOpening, opening-facts}
+use Rattle.tables.specs.laws.Rows.{put-opening-again}
+use Rattle.tables.specs.laws.Sound.{ranged-of}
+use Rattle.tables.specs.laws.OpeningFacts.{SoundOpening, opening-facts}
 use Rattle.cells.specs.Outcomes.{lent, outcome, requestOut}
-use Rattle.cells.specs.Uses.{leavesContent, verdictOn, use-out, asked-out}
+use Rattle.cells.specs.laws.Uses.{leavesContent, verdictOn, use-out, asked-out}
 use Rattle.gate.specs.Passed.{Reached}
 use Rattle.call_ask.specs.Told.{fieldAt}
 use Rattle.call_ask.proofs.Fields.{permit-cell, species-cell, value-cell, symbol-beyond, symbol-cell}
@@ -103,10 +104,10 @@ module _ (s t : List ℕ) (u e i : ℕ) (here : Reached (length s) t u e i) wher
   asks-symbol k h = asks-number (symbol-cell t i (long (length s) t u e i here) (in-range (length s) t u e i here) k h)
 
   pub asks-no-value : (p : ℕ) → value (handleIn (openingAt t i)) p ≡ 0 → verdictOn (askValue p) t (openingAt t i) ≡ refused 4
-  unfolding valuing
+  unfolding valueRule
   asks-no-value p z = refused-here 4 (eqb (value (handleIn (openingAt t i)) p) 0) _ (eq-eqb _ 0 z)
 
   pub asks-value : (p n : ℕ) → value (handleIn (openingAt t i)) p ≡ n → (n ≡ 0 → ⊥) → asks (askValue p) n
-  unfolding valuing
+  unfolding valueRule
   asks-value p n z d =
       went-on 4 (eqb (value (handleIn (openingAt t i)) p) 0) _ _ (ne-eqb _ 0 (λ q. d (sym z ∙ q))) (asks-number z)

@@ -5,15 +5,15 @@ use mathlib.Core.List.{List, [], _∷_}
 use native.Mathlib.Omega.{arith}
 use lib.ListN.{length, getD, List·getD-map, List·getD-eq-default}
 use Rattle.combine.specs.Lists.{part}
-use Rattle.combine.specs.Parts.{getD-part}
+use Rattle.combine.specs.laws.Parts.{getD-part}
 use Rattle.placing.specs.Sizes.{entries, tablesLength}
 use Rattle.placing.specs.Placing.{position}
 use Rattle.rules.specs.Headings.{value}
 use Rattle.tables.specs.Layout.{positionNumber, openingBase, openingOf, openingAt}
 use Rattle.tables.specs.Fields.{valueOf}
 use Rattle.tables.specs.Handles.{handleIn}
-use Rattle.tables.specs.Pointers.{value-in, value-none}
-use Rattle.tables.specs.Put.{opening-shaped-at}
+use Rattle.tables.specs.laws.Pointers.{value-in, value-none}
+use Rattle.tables.specs.laws.Put.{opening-shaped-at}
 use Rattle.call_ask.specs.Told.{fieldAt}
 
 -- an element that is there does not depend on what stands for one that is not

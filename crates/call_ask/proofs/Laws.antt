@@ -14,10 +14,10 @@ use Rattle.placing.specs.Sizes.{entries, tablesLength}
 use Rattle.placing.specs.Placing.{claimOf}
 use Rattle.rules.specs.Calls.{Act, uses, askSpecies, askClaim, askPermit, askSymbol, askBegin, askEnd, askValue}
 use Rattle.tables.specs.Layout.{openingAt}
-use Rattle.tables.specs.Pointers.{value-in}
-use Rattle.tables.specs.ExtentFacts.{SoundExtent}
+use Rattle.tables.specs.laws.Pointers.{value-in}
+use Rattle.tables.specs.laws.ExtentFacts.{SoundExtent}
 use Rattle.cells.specs.Outcomes.{outcome, requestOut}
-use Rattle.cells.specs.Uses.{leavesContent}
+use Rattle.cells.specs.laws.Uses.{leavesContent}
 use Rattle.gate.specs.declared.Gate.{Gate}
 use Rattle.gate.specs.declared.Gate.the-variants.{No, At}
 use Rattle.gate.specs.Gates.{reachOf}

@@ -10,7 +10,7 @@ ghost use Rattle.placing.specs.Sizes.{entries, tablesLength};
 ghost use Rattle.placing.specs.Placing.{claimOf};
 ghost use Rattle.rules.specs.Calls.{uses};
 ghost use Rattle.rules.specs.Calls as call;
-ghost use Rattle.tables.specs.ExtentFacts.{SoundExtent};
+ghost use Rattle.tables.specs.laws.ExtentFacts.{SoundExtent};
 ghost use Rattle.cells.specs.Outcomes.{outcome, requestOut};
 ghost use Rattle.gate.specs.Gates.{reachOf};
 ghost use Rattle.call_ask.specs.Told.{fieldAt, told};

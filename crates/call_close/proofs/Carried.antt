@@ -8,12 +8,12 @@ use Rattle.combine.specs.Outcome.{Outcome, outcomeOf}
 use Rattle.answers.specs.declared.Refusal.{Refusal}
 use Rattle.answers.specs.Said.{refusalNumber}
 use Rattle.placing.specs.Sizes.{places}
-use Rattle.rules.specs.Rules.{closing}
+use Rattle.rules.specs.Rules.{closeRule}
 use Rattle.tables.specs.declared.Record.{Record}
 use Rattle.tables.specs.declared.Opening.{Opening}
 use Rattle.tables.specs.Layout.{putRecord, putOpening, unusedRecord, closedOpening}
 use Rattle.tables.specs.Handles.{handleIn}
-use Rattle.cells.specs.Catalogue.{filedRecord}
+use Rattle.cells.specs.laws.Catalogue.{filedRecord}
 use Rattle.catalogue_laws.specs.Places.{headings}
 use Rattle.close_choice.specs.declared.Plan.{Plan}
 use Rattle.close_choice.specs.declared.Plan.the-variants.{No, Ends, Unfiles, Files}
@@ -58,7 +58,7 @@ module _ (t : List ℕ) (i u : ℕ) (o : Opening) (plan : Plan) where
 -- ---- what is decided
 
 module _ (how : Leaving) (t : List ℕ) (u : ℕ) (o : Opening) where
-  pub close-decided : (public : Bool) (plan : Plan) → how ≡ Closes public → planned u o plan ≡ closing public u (headings t) (handleIn o) → planned u o plan ≡ leaving how t u o
+  pub close-decided : (public : Bool) (plan : Plan) → how ≡ Closes public → planned u o plan ≡ closeRule public u (headings t) (handleIn o) → planned u o plan ≡ leaving how t u o
   unfolding leaving
   close-decided public plan e h = h ∙ ap (λ (x : Leaving). leaving x t u o) (sym e)
 

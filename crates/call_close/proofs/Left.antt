@@ -17,8 +17,8 @@ use Rattle.tables.specs.declared.Opening.{Opening}
 use Rattle.tables.specs.Layout.{openingAt}
 use Rattle.cells.specs.Says.{openingIn, houseOf, asOpening}
 use Rattle.cells.specs.Outcomes.{Lent, lent, outcome, performed, requestOut}
-use Rattle.cells.specs.Entered.{request-open, open-determined}
-use Rattle.cells.specs.Catalogue.{ended-performed, unfiled-performed, filed-performed}
+use Rattle.cells.specs.laws.Entered.{request-open, open-determined}
+use Rattle.cells.specs.laws.Catalogue.{ended-performed, unfiled-performed, filed-performed}
 use Rattle.catalogue_laws.specs.Places.{headings}
 use Rattle.gate.specs.declared.Gate.{Gate}
 use Rattle.gate.specs.declared.Gate.the-variants.{No, At}

@@ -10,7 +10,7 @@ use Rattle.tables.specs.declared.Record.{Record}
 use Rattle.tables.specs.declared.Opening.{Opening}
 use Rattle.tables.specs.Layout.{unusedRecord, closedOpening}
 use Rattle.tables.specs.Handles.{bit}
-use Rattle.cells.specs.Catalogue.{filedRecord}
+use Rattle.cells.specs.laws.Catalogue.{filedRecord}
 
 module _ (none : Position) (g : Segment) (a : none ≡ position 0) (b : g ≡ segment 0) where
   pub unused-made : _≡_ {A = Record} (record { used = 0; name = replicate 12 0; owner = 0; private = 0; species = 0; begin = none; end = none; segments = replicate 32 g }) unusedRecord

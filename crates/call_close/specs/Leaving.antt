@@ -6,11 +6,11 @@ use Rattle.combine.specs.Outcome.{Outcome, outcomeOf}
 use Rattle.answers.specs.Said.{refusalNumber}
 use Rattle.rules.specs.Calls.{Request, closes, abandons}
 use Rattle.rules.specs.Effects.{Effect, ended}
-use Rattle.rules.specs.Rules.{closing}
+use Rattle.rules.specs.Rules.{closeRule}
 use Rattle.tables.specs.declared.Opening.{Opening}
 use Rattle.tables.specs.Layout.{putRecord, putOpening, unusedRecord, closedOpening}
 use Rattle.tables.specs.Handles.{handleIn}
-use Rattle.cells.specs.Catalogue.{filedRecord}
+use Rattle.cells.specs.laws.Catalogue.{filedRecord}
 use Rattle.catalogue_laws.specs.Places.{headings}
 use Rattle.close_choice.specs.declared.Plan.{Plan}
 use Rattle.close_choice.specs.declared.Plan.the-variants.{No, Ends, Unfiles, Files}
@@ -23,7 +23,7 @@ requested Abandons = abandons
 
 -- the rule of the request, with the opening's handle
 unfoldable pub leaving : Leaving → List ℕ → ℕ → Opening → Verdict Effect
-leaving (Closes public) t u o = closing public u (headings t) (handleIn o)
+leaving (Closes public) t u o = closeRule public u (headings t) (handleIn o)
 leaving Abandons t u o = done ended
 
 -- a plan, carried out on the tables

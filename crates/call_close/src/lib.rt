@@ -18,7 +18,7 @@ ghost use Rattle.rules.specs.Calls.{closes, abandons};
 ghost use Rattle.tables.specs.Layout.{putOpening, unusedRecord, closedOpening};
 ghost use Rattle.tables.specs.Handles.{bit};
 ghost use Rattle.cells.specs.Outcomes.{outcome, requestOut};
-ghost use Rattle.cells.specs.Catalogue.{filedRecord};
+ghost use Rattle.cells.specs.laws.Catalogue.{filedRecord};
 ghost use Rattle.close_choice.specs.Planned.{planned, InRange};
 ghost use Rattle.call_close.specs.Leaving.{requested, leaving, carried};
 

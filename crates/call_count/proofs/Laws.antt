@@ -5,7 +5,7 @@ use mathlib.Core.Bool.{true, false}
 use mathlib.Core.List.{List}
 use lib.ListN.{length}
 use borrow.Author.Tests.{lt-ltb, le-ltb}
-use Rattle.combine.specs.Below.{was-true, was-false}
+use Rattle.combine.specs.laws.Below.{was-true, was-false}
 use Rattle.combine.specs.Verdict.{done, refused, refuse_when_else_}
 use Rattle.combine.specs.Outcome.{outcomeOf, settle}
 use Rattle.placing.specs.Sizes.{greatestUser}

@@ -6,7 +6,7 @@ use mathlib.Core.List.{List}
 use lib.ListN.{length, getD}
 use borrow.Author.Tests.{eq-eqb, ne-eqb, le-leb, lt-leb}
 use Rattle.combine.specs.Lists.{part}
-use Rattle.combine.specs.Rows.{one-bad, all-good}
+use Rattle.combine.specs.laws.Rows.{one-bad, all-good}
 use Rattle.combine.specs.Verdict.{done, refused, refuse_when_else_}
 use Rattle.combine.specs.Outcome.{outcomeOf, settle}
 use Rattle.packing.specs.Packing.{unpacked, rowOf}

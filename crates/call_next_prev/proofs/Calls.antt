@@ -8,7 +8,7 @@ use Rattle.answers.specs.declared.Refusal.{Refusal}
 use Rattle.answers.specs.declared.Answer.the-variants.{Refused}
 use Rattle.placing.specs.Sizes.{tablesLength, entries}
 use Rattle.rules.specs.Calls.{uses, next, prev}
-use Rattle.rules.specs.Access.{nexting, preving}
+use Rattle.rules.specs.Access.{nextRule, prevRule}
 use Rattle.tables.specs.declared.Opening.{Opening}
 use Rattle.tables.specs.Layout.{segmentsIn, openingAt}
 use Rattle.tables.specs.Handles.{handleIn}
@@ -48,10 +48,10 @@ module _ (s t : List ℕ) (u e : ℕ) (g : Gate) (eg : g ≡ reachOf (length s) 
       pub call-file : OpenFile o
       call-file = call-known .file
 
-      pub next-done : (p : ℕ) (z : Outcome Lent) → z ≡ usedOut s t i o (nexting p (handleIn o)) → z ≡ requestOut (uses (next p)) s t u e
-      next-done p z h = h ∙ (λ j. usedOut s t i (eo j) (nexting p (handleIn (eo j)))) ∙ sym (request-used s t u e i here (next p))
+      pub next-done : (p : ℕ) (z : Outcome Lent) → z ≡ usedOut s t i o (nextRule p (handleIn o)) → z ≡ requestOut (uses (next p)) s t u e
+      next-done p z h = h ∙ (λ j. usedOut s t i (eo j) (nextRule p (handleIn (eo j)))) ∙ sym (request-used s t u e i here (next p))
 
-      pub prev-done : (p : ℕ) (z : Outcome Lent) → z ≡ usedOut s t i o (preving p (handleIn o)) → z ≡ requestOut (uses (prev p)) s t u e
-      prev-done p z h = h ∙ (λ j. usedOut s t i (eo j) (preving p (handleIn (eo j)))) ∙ sym (request-used s t u e i here (prev p))
+      pub prev-done : (p : ℕ) (z : Outcome Lent) → z ≡ usedOut s t i o (prevRule p (handleIn o)) → z ≡ requestOut (uses (prev p)) s t u e
+      prev-done p z h = h ∙ (λ j. usedOut s t i (eo j) (prevRule p (handleIn (eo j)))) ∙ sym (request-used s t u e i here (prev p))
 
 pub ruleset calls = (next-refused, prev-refused, call-long, call-entry, call-fits, call-known, call-file, next-done, prev-done)

@@ -8,7 +8,7 @@ use mathlib.Core.List.{List}
 use native.Mathlib.Omega.{arith}
 use lib.Dec.{eqb}
 use borrow.Author.Tests.{eqb-true}
-use Rattle.combine.specs.Below.{split-bool}
+use Rattle.combine.specs.laws.Below.{split-bool}
 use Rattle.combine.specs.Verdict.{Verdict, done}
 use Rattle.combine.specs.Outcome.{Outcome, outcomeOf}
 use Rattle.answers.specs.declared.Refusal.{Refusal}
@@ -16,11 +16,11 @@ use Rattle.answers.specs.declared.Answer.the-variants.{Refused}
 use Rattle.placing.specs.declared.Segment.{Segment}
 use Rattle.placing.specs.declared.Position.{Position}
 use Rattle.placing.specs.Sizes.{greatestSpecies}
-use Rattle.placing.specs.Placing.{listPlace}
+use Rattle.placing.specs.Placing.{slotOf}
 use Rattle.store.specs.Store.{elementAt}
 use Rattle.rules.specs.Headings.{opening, moved}
 use Rattle.rules.specs.Effects.{Deed, stays, firstLeaves, lastLeaves, element, Use}
-use Rattle.rules.specs.Access.{nexting, preving}
+use Rattle.rules.specs.Access.{nextRule, prevRule}
 use Rattle.segments.specs.Deeds.{segmentsAfter, storeAfter}
 use Rattle.tables.specs.declared.Opening.{Opening}
 use Rattle.tables.specs.Layout.{segmentNumber, segmentsIn, putOpening}
@@ -77,7 +77,7 @@ module _ (t : List ℕ) (o : Opening) (w : OpenFile o) (p v : ℕ) (d : Deed) (v
   within : Known t o → (cells : ℕ) → segmentsIn t * 64 ≤ cells → g .0 * 64 + 64 ≤ cells
   within a cells l =
       let y = f .lies in
-      let k : ℕ = listPlace (o .species) (valueOf o 0) (x .0) in
+      let k : ℕ = slotOf (o .species) (valueOf o 0) (x .0) in
       let q = ap segmentNumber (y .which) in
       omega (arith, a .range k (place-within (o .species) (w .species) (valueOf o 0) (w .first) (valueOf o 1) (x .0) (y .low) (y .high)))
 
@@ -87,8 +87,8 @@ module _ (t : List ℕ) (o : Opening) (p : ℕ) (r : Reading) (a : NextPlan o p 
   next-said : (q : Reading) → r ≡ q → NextSaid o p q
   next-said q e = subst (λ (y : Reading). NextSaid o p y) e (a .plan)
 
-  pub next-kept : (s : List ℕ) (i : ℕ) (why : Refusal) → r ≡ No why → outcome (Refused why) s t ≡ usedOut s t i o (nexting p (handleIn o))
-  next-kept s i why e = used-no s t i o (nexting p (handleIn o)) _ (next-said (No why) e)
+  pub next-kept : (s : List ℕ) (i : ℕ) (why : Refusal) → r ≡ No why → outcome (Refused why) s t ≡ usedOut s t i o (nextRule p (handleIn o))
+  next-kept s i why e = used-no s t i o (nextRule p (handleIn o)) _ (next-said (No why) e)
 
   module _ (g : Segment) (x : Position) (e : r ≡ At g x) where
     next-is : NextSaid o p (At g x)
@@ -107,7 +107,7 @@ module _ (t : List ℕ) (o : Opening) (p : ℕ) (r : Reading) (a : NextPlan o p 
       pub next-fits : (cells : ℕ) → segmentsIn t * 64 ≤ cells → g .0 * 64 + 64 ≤ cells
       next-fits cells l = within t o (w .file) p _ _ _ g x (next-is .1) w cells l
 
-      pub next-told : (s : List ℕ) (i : ℕ) (n : Opening) (z : Outcome Lent) → n ≡ nextLeft o p → z ≡ delivered s t i (o .species) n g x → z ≡ usedOut s t i o (nexting p (handleIn o))
+      pub next-told : (s : List ℕ) (i : ℕ) (n : Opening) (z : Outcome Lent) → n ≡ nextLeft o p → z ≡ delivered s t i (o .species) n g x → z ≡ usedOut s t i o (nextRule p (handleIn o))
       next-told s i n z en h =
           let l = next-is .1 .lies in
           let v : x .0 + 1 ≡ valueOf o p + 1 = ap (λ (y : ℕ). y + 1) (sym (next-is .0)) in
@@ -123,8 +123,8 @@ module _ (t : List ℕ) (o : Opening) (p : ℕ) (r : Reading) (a : PrevPlan o p 
   prev-said : (q : Reading) → r ≡ q → PrevSaid o p q
   prev-said q e = subst (λ (y : Reading). PrevSaid o p y) e (a .plan)
 
-  pub prev-kept : (s : List ℕ) (i : ℕ) (why : Refusal) → r ≡ No why → outcome (Refused why) s t ≡ usedOut s t i o (preving p (handleIn o))
-  prev-kept s i why e = used-no s t i o (preving p (handleIn o)) _ (prev-said (No why) e)
+  pub prev-kept : (s : List ℕ) (i : ℕ) (why : Refusal) → r ≡ No why → outcome (Refused why) s t ≡ usedOut s t i o (prevRule p (handleIn o))
+  prev-kept s i why e = used-no s t i o (prevRule p (handleIn o)) _ (prev-said (No why) e)
 
   module _ (g : Segment) (x : Position) (e : r ≡ At g x) where
     prev-is : PrevSaid o p (At g x)
@@ -143,7 +143,7 @@ module _ (t : List ℕ) (o : Opening) (p : ℕ) (r : Reading) (a : PrevPlan o p 
       pub prev-fits : (cells : ℕ) → segmentsIn t * 64 ≤ cells → g .0 * 64 + 64 ≤ cells
       prev-fits cells l = within t o (w .file) p _ _ _ g x (prev-is .1) w cells l
 
-      pub prev-told : (s : List ℕ) (i : ℕ) (n : Opening) (z : Outcome Lent) → n ≡ prevLeft o p → z ≡ delivered s t i (o .species) n g x → z ≡ usedOut s t i o (preving p (handleIn o))
+      pub prev-told : (s : List ℕ) (i : ℕ) (n : Opening) (z : Outcome Lent) → n ≡ prevLeft o p → z ≡ delivered s t i (o .species) n g x → z ≡ usedOut s t i o (prevRule p (handleIn o))
       prev-told s i n z en h =
           let l = prev-is .1 .lies in
           let q = prev-is .0 in

@@ -7,7 +7,7 @@ use lib.Dec.{eqb}
 use lib.ListN.{getD}
 use borrow.Author.Tests.{eq-eqb, ne-eqb}
 use Rattle.placing.specs.declared.Position.{Position}
-use Rattle.placing.specs.Placing.{segment, position, listPlace}
+use Rattle.placing.specs.Placing.{segment, position, slotOf}
 use Rattle.tables.specs.declared.Opening.{Opening}
 use Rattle.tables.specs.Fields.{valueOf}
 use Rattle.tables.specs.Handles.{pointed}
@@ -29,7 +29,7 @@ pub ruleset permits = (permit-other, permit-this)
 
 -- ---- the segment of position x: k is its place in the list
 
-module _ (o : Opening) (x k : ℕ) (ek : k ≡ listPlace (o .species) (valueOf o 0) x) where
+module _ (o : Opening) (x k : ℕ) (ek : k ≡ slotOf (o .species) (valueOf o 0) x) where
   pub place-small : OpenFile o → valueOf o 0 ≤ x → x < valueOf o 1 → k < 32
   place-small w l h = let f = w .few in omega (arith, place-within (o .species) (w .species) (valueOf o 0) (w .first) (valueOf o 1) x l h)
 

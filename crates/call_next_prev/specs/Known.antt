@@ -7,15 +7,16 @@ use mathlib.Core.List.{List}
 use native.Mathlib.Omega.{arith}
 use lib.ListN.{length}
 use borrow.Author.Tests.{leb-true}
-use Rattle.combine.specs.Rows.{each-of}
+use Rattle.combine.specs.laws.Rows.{each-of}
 use Rattle.placing.specs.Sizes.{tablesLength, entries, entryOf, places}
 use Rattle.placing.specs.Placing.{heldOf}
 use Rattle.tables.specs.declared.Opening.{Opening}
 use Rattle.tables.specs.Layout.{segmentsIn, openingAt}
 use Rattle.tables.specs.Fields.{isOpen, valueOf, numberAt, recordFor}
-use Rattle.tables.specs.Sound.{Ranged, ranged-of, soundb, numberb}
-use Rattle.tables.specs.RecordFacts.{SoundRecord, record-facts}
-use Rattle.tables.specs.OpeningFacts.{SoundOpening, opening-facts}
+use Rattle.tables.specs.Sound.{soundb, numberb}
+use Rattle.tables.specs.laws.Sound.{Ranged, ranged-of}
+use Rattle.tables.specs.laws.RecordFacts.{SoundRecord, record-facts}
+use Rattle.tables.specs.laws.OpeningFacts.{SoundOpening, opening-facts}
 use Rattle.opening_laws.specs.Back.{OpenFile}
 use Rattle.opening_laws.specs.Open.{open-file}
 use Rattle.gate.specs.Passed.{Reached}

@@ -10,11 +10,11 @@ use Rattle.combine.specs.Outcome.{Outcome, outcomeOf}
 use Rattle.answers.specs.Said.{refusalNumber}
 use Rattle.placing.specs.declared.Segment.{Segment}
 use Rattle.placing.specs.declared.Position.{Position}
-use Rattle.placing.specs.Placing.{segment, position, listPlace}
+use Rattle.placing.specs.Placing.{segment, position, slotOf}
 use Rattle.store.specs.Store.{elementAt}
 use Rattle.rules.specs.Headings.{moved}
 use Rattle.rules.specs.Effects.{Deed, stays, firstLeaves, lastLeaves, element, Use, does}
-use Rattle.rules.specs.Access.{nexting, preving}
+use Rattle.rules.specs.Access.{nextRule, prevRule}
 use Rattle.tables.specs.declared.Opening.{Opening}
 use Rattle.tables.specs.Layout.{putOpening}
 use Rattle.tables.specs.Fields.{valueOf}
@@ -26,7 +26,7 @@ use Rattle.call_next_prev.specs.declared.Reading.the-variants.{No, At}
 
 -- the segment of position x
 abbrev pub segmentFor : Opening → ℕ → Segment
-segmentFor o x = getD (o .segments) (listPlace (o .species) (valueOf o 0) x) (segment 0)
+segmentFor o x = getD (o .segments) (slotOf (o .species) (valueOf o 0) x) (segment 0)
 
 -- "next through 0 and prev through 1 need the work permit": q is the pointer that needs it
 abbrev pub lacksPermit : ℕ → ℕ → ℕ → Bool
@@ -54,12 +54,12 @@ pub record Delivers (o : Opening) (p v : ℕ) (d : Deed) (verdict : Verdict Use)
 
 -- what a reading says of the verdict
 abbrev pub NextSaid : Opening → ℕ → Reading → Type 0
-NextSaid o p (No why) = nexting p (handleIn o) ≡ refused (refusalNumber why)
-NextSaid o p (At g x) = (valueOf o p ≡ x .0) × Delivers o p (x .0 + 1) (cond (eqb p 0) firstLeaves stays) (nexting p (handleIn o)) g x
+NextSaid o p (No why) = nextRule p (handleIn o) ≡ refused (refusalNumber why)
+NextSaid o p (At g x) = (valueOf o p ≡ x .0) × Delivers o p (x .0 + 1) (cond (eqb p 0) firstLeaves stays) (nextRule p (handleIn o)) g x
 
 abbrev pub PrevSaid : Opening → ℕ → Reading → Type 0
-PrevSaid o p (No why) = preving p (handleIn o) ≡ refused (refusalNumber why)
-PrevSaid o p (At g x) = (valueOf o p ≡ x .0 + 1) × Delivers o p (x .0) (cond (eqb p 1) lastLeaves stays) (preving p (handleIn o)) g x
+PrevSaid o p (No why) = prevRule p (handleIn o) ≡ refused (refusalNumber why)
+PrevSaid o p (At g x) = (valueOf o p ≡ x .0 + 1) × Delivers o p (x .0) (cond (eqb p 1) lastLeaves stays) (prevRule p (handleIn o)) g x
 
 pub record NextPlan (o : Opening) (p : ℕ) (r : Reading) : Type 0 where
   pub plan : NextSaid o p r

@@ -8,14 +8,14 @@ use Rattle.combine.specs.Verdict.{Verdict, refused, done, onDone}
 use Rattle.combine.specs.Outcome.{Outcome, outcomeOf, settle}
 use Rattle.rules.specs.Calls.{Act, uses}
 use Rattle.rules.specs.Headings.{Handle, opening}
-use Rattle.rules.specs.Effects.{Deed, Told, Use, does, used}
-use Rattle.segments.specs.Deeds.{segmentsAfter, storeAfter, saidBySegments}
+use Rattle.rules.specs.Effects.{Deed, Delivered, Use, does, used}
+use Rattle.segments.specs.Deeds.{segmentsAfter, storeAfter, deliveredBySegments}
 use Rattle.tables.specs.declared.Opening.{Opening}
 use Rattle.tables.specs.Layout.{openingAt, putOpening}
 use Rattle.cells.specs.Says.{openingIn, houseOf, asOpening, written}
 use Rattle.cells.specs.Outcomes.{Lent, lent, performed, requestOut}
-use Rattle.cells.specs.Entered.{request-open}
-use Rattle.cells.specs.Uses.{verdictOn}
+use Rattle.cells.specs.laws.Entered.{request-open}
+use Rattle.cells.specs.laws.Uses.{verdictOn}
 use Rattle.gate.specs.Passed.{Reached}
 use Rattle.call_next_prev.specs.Known.{reached-open}
 
@@ -29,13 +29,13 @@ module _ (s t : List ℕ) (i : ℕ) (o : Opening) where
   used-no v n e = sym (ap (usedOut s t i o) e)
 
   -- the number of the answer, the store, and the opening that is put back
-  pub used-done : (v : Verdict Use) (a : Told) (h : Handle) (d : Deed) (n : Opening) → v ≡ done (does a h d)
+  pub used-done : (v : Verdict Use) (a : Delivered) (h : Handle) (d : Deed) (n : Opening) → v ≡ done (does a h d)
       → asOpening (some (opening h (segmentsAfter (houseOf t) (openingIn o) h d))) ≡ n
-      → usedOut s t i o v ≡ outcomeOf (done (saidBySegments s (openingIn o) a)) (lent (storeAfter s (houseOf t) (openingIn o) d) (putOpening t i n))
+      → usedOut s t i o v ≡ outcomeOf (done (deliveredBySegments s (openingIn o) a)) (lent (storeAfter s (houseOf t) (openingIn o) d) (putOpening t i n))
   unfolding usedOut settle written
   used-done v a h d n e b =
       ap (usedOut s t i o) e
-      ∙ ap (λ (y : Opening). outcomeOf (done (saidBySegments s (openingIn o) a)) (lent (storeAfter s (houseOf t) (openingIn o) d) (putOpening t i y))) b
+      ∙ ap (λ (y : Opening). outcomeOf (done (deliveredBySegments s (openingIn o) a)) (lent (storeAfter s (houseOf t) (openingIn o) d) (putOpening t i y))) b
 
 -- ---- behind the gate
 

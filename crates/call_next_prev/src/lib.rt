@@ -4,7 +4,7 @@ ghost use Prim.Native.Nat.{_+_, _*_, _≤_, _<_};
 ghost use lib.ListN.{length};
 ghost use Rattle.placing.specs.Sizes.{segmentCells, greatestSpecies, tablesLength, entries};
 ghost use Rattle.rules.specs.Calls.{uses, next, prev};
-ghost use Rattle.rules.specs.Access.{nexting, preving};
+ghost use Rattle.rules.specs.Access.{nextRule, prevRule};
 ghost use Rattle.tables.specs.Layout.{segmentsIn};
 ghost use Rattle.tables.specs.Fields.{valueOf};
 ghost use Rattle.tables.specs.Handles.{handleIn};
@@ -154,7 +154,7 @@ fn deliver_next(
     reading: Reading,
 ) -> Answer
     requires { ⌜ (length (now tables) ≡ tablesLength) × (entry < entries) × (segmentsIn (now tables) * segmentCells ≤ length (now store)) × Known (now tables) opening × NextPlan opening pointer reading ⌝ }
-    ensures { λ r. ⌜ outcome r (now (store .entry)) (now (tables .exit)) ≡ usedOut (now (store .entry)) (now (tables .entry)) entry opening (nexting pointer (handleIn opening)) ⌝ }
+    ensures { λ r. ⌜ outcome r (now (store .entry)) (now (tables .exit)) ≡ usedOut (now (store .entry)) (now (tables .entry)) entry opening (nextRule pointer (handleIn opening)) ⌝ }
 {
     match reading {
         Reading::No(why) => Answer::Refused(why),
@@ -182,7 +182,7 @@ fn deliver_prev(
     reading: Reading,
 ) -> Answer
     requires { ⌜ (length (now tables) ≡ tablesLength) × (entry < entries) × (segmentsIn (now tables) * segmentCells ≤ length (now store)) × Known (now tables) opening × PrevPlan opening pointer reading ⌝ }
-    ensures { λ r. ⌜ outcome r (now (store .entry)) (now (tables .exit)) ≡ usedOut (now (store .entry)) (now (tables .entry)) entry opening (preving pointer (handleIn opening)) ⌝ }
+    ensures { λ r. ⌜ outcome r (now (store .entry)) (now (tables .exit)) ≡ usedOut (now (store .entry)) (now (tables .entry)) entry opening (prevRule pointer (handleIn opening)) ⌝ }
 {
     match reading {
         Reading::No(why) => Answer::Refused(why),

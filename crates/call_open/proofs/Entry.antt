@@ -15,7 +15,7 @@ use Rattle.rules.specs.Calls.{Way, opens}
 use Rattle.tables.specs.Layout.{openingAt}
 use Rattle.tables.specs.Fields.{isOpen}
 use Rattle.cells.specs.Outcomes.{outcome, requestOut}
-use Rattle.cells.specs.Entered.{request-open}
+use Rattle.cells.specs.laws.Entered.{request-open}
 use Rattle.gate.specs.declared.Gate.{Gate}
 use Rattle.gate.specs.declared.Gate.the-variants.{No, At}
 use Rattle.gate.specs.Gates.{passOf}

@@ -6,7 +6,8 @@ use mathlib.Core.Option.{none}
 use mathlib.Core.List.{List}
 use lib.ListN.{length}
 use borrow.Author.Tests.{lt-ltb, le-ltb}
-use Rattle.combine.specs.Verdict.{Verdict, done, refused-here, went-on, onDone}
+use Rattle.combine.specs.Verdict.{Verdict, done, onDone}
+use Rattle.combine.specs.laws.Verdict.{refused-here, went-on}
 use Rattle.combine.specs.Outcome.{Outcome, outcomeOf, settle}
 use Rattle.answers.specs.declared.Refusal.{Refusal}
 use Rattle.answers.specs.declared.Refusal.the-variants.{Species}
@@ -22,8 +23,8 @@ use Rattle.tables.specs.declared.Opening.{Opening}
 use Rattle.tables.specs.Layout.{recordAt, openingAt, putOpening}
 use Rattle.tables.specs.Fields.{isOpen}
 use Rattle.cells.specs.Outcomes.{Lent, lent, outcome, performed, requestOut}
-use Rattle.cells.specs.Entered.{request-closed}
-use Rattle.cells.specs.Catalogue.{newOpening, oldOpening, new-performed, old-performed}
+use Rattle.cells.specs.laws.Entered.{request-closed}
+use Rattle.cells.specs.laws.Catalogue.{newOpening, oldOpening, new-performed, old-performed}
 use Rattle.catalogue_laws.specs.Places.{headings}
 use Rattle.catalogue_laws.specs.Entries.{othersIn}
 use Rattle.catalogue_laws.specs.Determined.{record-determined}

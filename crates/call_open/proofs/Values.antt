@@ -12,7 +12,7 @@ use Rattle.placing.specs.Placing.{segment, position}
 use Rattle.tables.specs.declared.Record.{Record}
 use Rattle.tables.specs.declared.Opening.{Opening}
 use Rattle.tables.specs.Handles.{bit}
-use Rattle.cells.specs.Catalogue.{newOpening, oldOpening}
+use Rattle.cells.specs.laws.Catalogue.{newOpening, oldOpening}
 
 pub new-made : (n : ℕ) (one none : Position) (g : Segment) → one ≡ position 1 → none ≡ position 0 → g ≡ segment 0
     → _≡_ {A = Opening} (record { opened = 1; place = 0; permit = 1; species = n; pointers = one ∷ one ∷ one ∷ replicate 5 none; name = replicate 12 63; segments = replicate 32 g }) (newOpening n)

@@ -16,7 +16,7 @@ ghost use Rattle.rules.specs.Calls as way;
 ghost use Rattle.tables.specs.Layout.{recordAt, putOpening};
 ghost use Rattle.tables.specs.Handles.{bit};
 ghost use Rattle.cells.specs.Outcomes.{outcome, requestOut};
-ghost use Rattle.cells.specs.Catalogue.{newOpening, oldOpening};
+ghost use Rattle.cells.specs.laws.Catalogue.{newOpening, oldOpening};
 ghost use Rattle.call_open.specs.Vacant.{AtVacant};
 ghost use Rattle.call_open.specs.Ways.{wayOf};
 

@@ -6,7 +6,8 @@ use mathlib.Core.List.{List}
 use native.Mathlib.Omega.{arith}
 use lib.ListN.{length}
 use Rattle.combine.specs.Verdict.{Verdict, done, isDone, onDone}
-use Rattle.combine.specs.Outcome.{Outcome, outcomeOf, settle, refusal-keeps}
+use Rattle.combine.specs.Outcome.{Outcome, outcomeOf, settle}
+use Rattle.combine.specs.laws.Outcome.{refusal-keeps}
 use Rattle.answers.specs.declared.Refusal.{Refusal}
 use Rattle.answers.specs.declared.Answer.{Answer}
 use Rattle.answers.specs.declared.Answer.the-variants.{Done, Refused}
@@ -20,11 +21,11 @@ use Rattle.tables.specs.declared.Opening.{Opening}
 use Rattle.tables.specs.Layout.{openingAt, putOpening}
 use Rattle.tables.specs.Fields.{isOpen, valueOf}
 use Rattle.tables.specs.Handles.{handleIn, pointed, carried}
-use Rattle.tables.specs.Pointers.{value-in, moved-in}
-use Rattle.tables.specs.Rows.{put-opening-again}
-use Rattle.tables.specs.Sound.{ranged-of}
+use Rattle.tables.specs.laws.Pointers.{value-in, moved-in}
+use Rattle.tables.specs.laws.Rows.{put-opening-again}
+use Rattle.tables.specs.laws.Sound.{ranged-of}
 use Rattle.cells.specs.Outcomes.{Lent, lent, outcome, requestOut}
-use Rattle.cells.specs.Uses.{leavesContent, verdictOn, use-out}
+use Rattle.cells.specs.laws.Uses.{leavesContent, verdictOn, use-out}
 use Rattle.gate.specs.declared.Gate.{Gate}
 use Rattle.gate.specs.declared.Gate.the-variants.{No, At}
 use Rattle.gate.specs.Gates.{reachOf}

@@ -9,12 +9,12 @@ use Rattle.answers.specs.declared.Refusal.{Refusal}
 use Rattle.answers.specs.declared.Answer.the-variants.{Refused}
 use Rattle.names.specs.Names.{nameOf}
 use Rattle.rules.specs.Calls.{rename, uses}
-use Rattle.rules.specs.Access.{renaming}
+use Rattle.rules.specs.Access.{renameRule}
 use Rattle.tables.specs.declared.Opening.{Opening}
 use Rattle.tables.specs.Layout.{openingAt, putOpening}
 use Rattle.tables.specs.Handles.{handleIn, carried}
 use Rattle.cells.specs.Outcomes.{Lent, lent, outcome, requestOut}
-use Rattle.cells.specs.Uses.{use-out}
+use Rattle.cells.specs.laws.Uses.{use-out}
 use Rattle.gate.specs.declared.Gate.{Gate}
 use Rattle.gate.specs.declared.Gate.the-variants.{No, At}
 use Rattle.gate.specs.Gates.{reachOf}
@@ -30,7 +30,7 @@ module _ (s t : List ℕ) (u e : ℕ) (g : Gate) (eg : g ≡ reachOf (length s) 
     here = reaches s t u e g eg i at
 
     -- the opening o with the name n is x then, and a the answer
-    pub renamed : (bytes n : List ℕ) → n ≡ nameOf bytes → (o x : Opening) → o ≡ openingAt t i → (a : Said) → outcomeOf a x ≡ settle o (onDone (carried o) (renaming n (handleIn o)))
+    pub renamed : (bytes n : List ℕ) → n ≡ nameOf bytes → (o x : Opening) → o ≡ openingAt t i → (a : Said) → outcomeOf a x ≡ settle o (onDone (carried o) (renameRule n (handleIn o)))
         → (t′ : List ℕ) → t′ ≡ putOpening t i x → outcomeOf a (lent s t′) ≡ requestOut (uses (rename bytes)) s t u e
     renamed bytes n en o x eo a ea t′ et =
         let p = here .passed in
@@ -43,4 +43,4 @@ module _ (s t : List ℕ) (u e : ℕ) (g : Gate) (eg : g ≡ reachOf (length s) 
         put k y = outcomeOf (y .answer) (lent s (putOpening t k (y .after)))
 
         by-opening : Opening → List ℕ → Outcome Opening
-        by-opening y m = settle y (onDone (carried y) (renaming m (handleIn y)))
+        by-opening y m = settle y (onDone (carried y) (renameRule m (handleIn y)))

@@ -12,16 +12,16 @@ use Rattle.combine.specs.Outcome.{Outcome, outcomeOf}
 use Rattle.answers.specs.declared.Refusal.{Refusal}
 use Rattle.answers.specs.declared.Answer.the-variants.{Done, Refused}
 use Rattle.placing.specs.declared.Segment.{Segment}
-use Rattle.placing.specs.Placing.{segment, position, listPlace}
+use Rattle.placing.specs.Placing.{segment, position, slotOf}
 use Rattle.store.specs.Store.{putElement, zeroed, copied}
-use Rattle.rules.specs.Headings.{opening, moved, placeIn}
+use Rattle.rules.specs.Headings.{opening, moved, slotIn}
 use Rattle.rules.specs.Effects.{stores, plain, Use, firstLeaves}
 use Rattle.segments.specs.Deeds.{target, segmentsAfter}
 use Rattle.tables.specs.declared.Opening.{Opening}
 use Rattle.tables.specs.Layout.{segmentsIn, putOpening}
 use Rattle.tables.specs.Fields.{valueOf}
 use Rattle.tables.specs.Handles.{handleIn, pointed}
-use Rattle.tables.specs.Pointers.{value-in}
+use Rattle.tables.specs.laws.Pointers.{value-in}
 use Rattle.cells.specs.Says.{openingIn, houseOf, asOpening}
 use Rattle.cells.specs.Outcomes.{Lent, lent, outcome}
 use Rattle.opening_laws.specs.Deeded.{withSegments, withSegment, firstLeft}
@@ -40,7 +40,7 @@ module _ (s t : List ℕ) (i : ℕ) (o : Opening) (w : OpenFile o) (p : ℕ) (ve
       asOpening (some (opening n (segmentsAfter (houseOf t) (openingIn o) n (stores (valueOf o p) 0)))) ≡ withSegment (pointed o p (position (valueOf o p + 1))) k g
   stored-back =
       let v = valueOf o p in
-      let place : placeIn (handleIn o) v ≡ k = ap (λ (b : ℕ). listPlace (o .species) b v) (value-in o 0) ∙ sym (f .place) in
+      let place : slotIn (handleIn o) v ≡ k = ap (λ (b : ℕ). slotOf (o .species) b v) (value-in o 0) ∙ sym (f .place) in
       let y = f .seats in
       let e = f .place in
       ap (λ (j : ℕ). asOpening (some (opening (moved (handleIn o) p (v + 1)) (put (openingIn o .content) j (target (houseOf t) (openingIn o) v))))) place
@@ -121,7 +121,7 @@ module _ (t : List ℕ) (o : Opening) (p : ℕ) (plan : Plan) (a : Planned t o p
       unfolding settled
       carry-put g z e h =
           let f = is (Put g) e in
-          let k = listPlace (o .species) (valueOf o 0) (valueOf o p) in
+          let k = slotOf (o .species) (valueOf o 0) (valueOf o p) in
           let same : set (o .segments) k g ≡ o .segments = ap (set (o .segments) k) (sym (f .there)) ∙ set-getD (o .segments) k (segment 0) in
           h
           ∙ (λ j. outcomeOf (done 0) (lent (putElement s (o .species) g (position (valueOf o p)) m) (putOpening t i (withSegments (pointed o p (position (valueOf o p + 1))) (sym same j)))))

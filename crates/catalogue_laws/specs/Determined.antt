@@ -4,19 +4,20 @@ use mathlib.Core.Path.{_≡_, sym, ap, _∙_}
 use mathlib.Core.Bool.{Bool, true, cond}
 use mathlib.Core.Option.{none, some}
 use mathlib.Core.List.{List}
-use Rattle.combine.specs.Below.{all-at}
-use Rattle.combine.specs.Rows.{each-of}
+use Rattle.combine.specs.laws.Below.{all-at}
+use Rattle.combine.specs.laws.Rows.{each-of}
 use Rattle.placing.specs.Sizes.{places}
 use Rattle.tables.specs.Layout.{segmentsIn, recordAt}
 use Rattle.tables.specs.Fields.{isUsed}
 use Rattle.tables.specs.Records.{recordb, recordsb}
-use Rattle.tables.specs.Put.{record-shaped-at}
-use Rattle.tables.specs.Sound.{soundb, ranged-of}
-use Rattle.cells.specs.Says.{recordIn, recordSays, asRecord}
-use Rattle.cells.specs.Determined.{record-back}
+use Rattle.tables.specs.laws.Put.{record-shaped-at}
+use Rattle.tables.specs.Sound.{soundb}
+use Rattle.tables.specs.laws.Sound.{ranged-of}
+use Rattle.cells.specs.Says.{recordIn, decodedRecord, asRecord}
+use Rattle.cells.specs.laws.Determined.{record-back}
 
 pub record-determined : (cells : ℕ) (t : List ℕ) (p : ℕ) → soundb cells t ≡ true → p < places → isUsed (recordAt t p) ≡ true → asRecord (some (recordIn (recordAt t p))) ≡ recordAt t p
-unfolding recordSays recordsb
+unfolding decodedRecord recordsb
 record-determined cells t p sound l used =
     let f = ranged-of cells t sound in
     let r = recordAt t p in

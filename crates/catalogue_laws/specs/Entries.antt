@@ -9,7 +9,8 @@ use native.Mathlib.Omega.{arith}
 use lib.Dec.{eqb, ltb, eqb·suc-zero, eqb·suc-suc}
 use lib.ListN.{length}
 use Rattle.combine.specs.First.{firstBelow}
-use Rattle.combine.specs.Lists.{any, firstWhere, tab, length-tab}
+use Rattle.combine.specs.Lists.{any, firstWhere, tab}
+use Rattle.combine.specs.laws.Lists.{length-tab}
 use Rattle.placing.specs.Sizes.{entries}
 use Rattle.rules.specs.Headings.{Handle, handleOf, passes}
 use Rattle.rules.specs.Effects.{Others}
@@ -20,7 +21,7 @@ use Rattle.tables.specs.declared.Opening.{Opening}
 use Rattle.tables.specs.Layout.{openingAt}
 use Rattle.tables.specs.Fields.{isOpen}
 use Rattle.tables.specs.Handles.{handleIn, placeOf}
-use Rattle.cells.specs.Says.{openingIn, openingSays, houseOf}
+use Rattle.cells.specs.Says.{openingIn, decodedOpening, houseOf}
 use Rattle.catalogue_laws.specs.Lists.{first-cong, first-tab, any-first, map-tab}
 
 -- an opening that keeps others from the record at place p: from work (w) every one, else one for work
@@ -40,8 +41,8 @@ place-number p (suc m) =
 abbrev engages : Bool → ℕ → Handle → Bool
 engages w p h = (w || h .permit) && opensPlace p h
 
-engages-off : (w : Bool) (p : ℕ) (o : Opening) → passes (engages w p) (handleOf (openingSays o)) ≡ keepsOff w p o
-unfolding keepsOff openingSays
+engages-off : (w : Bool) (p : ℕ) (o : Opening) → passes (engages w p) (handleOf (decodedOpening o)) ≡ keepsOff w p o
+unfolding keepsOff decodedOpening
 engages-off w p o = go (isOpen o) ∙ ap (λ (b : Bool). isOpen o && ((w || eqb (o .permit) 1) && b)) (place-number p (o .place))
   where
     go : (b : Bool) → passes (engages w p) (handleOf (cond b (some (openingIn o)) none)) ≡ (b && engages w p (handleIn o))
@@ -54,11 +55,11 @@ unfolding houseOf othersIn
 busy-first t w p =
     by-way w
     ∙ any-first (passes (engages w p)) (map handleOf (houseOf t .openings))
-    ∙ ap (λ l. ltb (firstWhere (passes (engages w p)) l) (length l)) (map-tab handleOf entries (λ i. openingSays (openingAt t i)))
+    ∙ ap (λ l. ltb (firstWhere (passes (engages w p)) l) (length l)) (map-tab handleOf entries (λ i. decodedOpening (openingAt t i)))
     ∙ (λ j. ltb (found j) (length-tab entries said j))
   where
     said : ℕ → Option Handle
-    said i = handleOf (openingSays (openingAt t i))
+    said i = handleOf (decodedOpening (openingAt t i))
 
     found : firstWhere (passes (engages w p)) (tab entries said) ≡ firstBelow entries (λ i. keepsOff w p (openingAt t i))
     found = first-tab (passes (engages w p)) entries said ∙ first-cong _ _ entries (λ i l. engages-off w p (openingAt t i))

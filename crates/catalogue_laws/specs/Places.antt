@@ -8,9 +8,10 @@ use native.Mathlib.Numerals.{add-one}
 use native.Mathlib.Omega.{arith}
 use lib.Dec.{eqb, ltb, eqb·suc-zero, eqb·suc-suc}
 use lib.ListN.{length, getD}
-use Rattle.combine.specs.Below.{left-of, right-of}
+use Rattle.combine.specs.laws.Below.{left-of, right-of}
 use Rattle.combine.specs.First.{firstBelow}
-use Rattle.combine.specs.Lists.{any, firstWhere, tab, length-tab, tab-at, tab-cong}
+use Rattle.combine.specs.Lists.{any, firstWhere, tab}
+use Rattle.combine.specs.laws.Lists.{length-tab, tab-at, tab-cong}
 use Rattle.placing.specs.Sizes.{places}
 use Rattle.rules.specs.Headings.{Heading, headOf, passes, isSome}
 use Rattle.rules.specs.Rules.{isOwn, isPublic, lookUp, without, placeFor}
@@ -18,7 +19,7 @@ use Rattle.tables.specs.declared.Record.{Record}
 use Rattle.tables.specs.Layout.{recordAt}
 use Rattle.tables.specs.Fields.{isUsed}
 use Rattle.tables.specs.Handles.{headingOf, placeOf}
-use Rattle.cells.specs.Says.{recordIn, recordSays, houseOf}
+use Rattle.cells.specs.Says.{recordIn, decodedRecord, houseOf}
 use Rattle.catalogue_laws.specs.Lists.{first-cong, first-found, first-tab, any-first, map-tab, set-tab}
 
 -- the headings of the catalogue's places
@@ -36,10 +37,10 @@ another f t n q = not (eqb (q + 1) n) && usedWith f (recordAt t q)
 -- ---- a record
 
 heading : Record → Option Heading
-heading r = headOf (recordSays r)
+heading r = headOf (decodedRecord r)
 
 heading-used : (r : Record) → heading r ≡ cond (isUsed r) (some (headingOf r)) none
-unfolding heading recordSays
+unfolding heading decodedRecord
 heading-used r = go (isUsed r)
   where
     go : (b : Bool) → headOf (cond b (some (recordIn r)) none) ≡ cond b (some (headingOf r)) none
@@ -59,7 +60,7 @@ passes-used f r = ap (passes f) (heading-used r) ∙ go (isUsed r)
 module _ (t : List ℕ) where
   headings-tab : headings t ≡ tab places (λ q. heading (recordAt t q))
   unfolding headings heading houseOf
-  headings-tab = map-tab headOf places (λ q. recordSays (recordAt t q))
+  headings-tab = map-tab headOf places (λ q. decodedRecord (recordAt t q))
 
   pub headings-long : length (headings t) ≡ places
   headings-long = ap length headings-tab ∙ length-tab places (λ q. heading (recordAt t q))

@@ -8,9 +8,9 @@ use native.Mathlib.Omega.{arith}
 use lib.Dec.{eqb}
 use lib.ListN.{getD, take, drop}
 use borrow.Author.Tests.{eq-eqb, ne-eqb}
-use Rattle.combine.specs.Below.{bad-left}
+use Rattle.combine.specs.laws.Below.{bad-left}
 use Rattle.combine.specs.Lists.{part, same}
-use Rattle.combine.specs.Parts.{getD-part}
+use Rattle.combine.specs.laws.Parts.{getD-part}
 use Rattle.rules.specs.Headings.{Heading}
 use Rattle.tables.specs.Layout.{recordOf, recordAt, openingOf, openingAt}
 use Rattle.tables.specs.Fields.{isUsed}

@@ -6,7 +6,8 @@ use mathlib.Core.List.{List}
 use native.Mathlib.Nat.{le-antisymm}
 use lib.Dec.{ltb}
 use borrow.Author.Tests.{lt-ltb, le-ltb}
-use Rattle.combine.specs.First.{firstBelow, first-at}
+use Rattle.combine.specs.First.{firstBelow}
+use Rattle.combine.specs.laws.First.{first-at}
 use Rattle.placing.specs.Sizes.{places}
 use Rattle.rules.specs.Rules.{lookUp}
 use Rattle.catalogue_laws.specs.Places.{headings, another, look-up}

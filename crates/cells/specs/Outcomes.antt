@@ -2,14 +2,14 @@
 use Prim.Native.Nat.{ℕ}
 use mathlib.Core.Bool.{Bool, _&&_}
 use mathlib.Core.Option.{none}
-use mathlib.Core.List.{List, []}
+use mathlib.Core.List.{[]}
 use lib.Dec.{eqb, leb}
 use lib.ListN.{length, getD}
 use Rattle.answers.specs.declared.Answer.{Answer}
 use Rattle.combine.specs.Verdict.{done, onDone}
 use Rattle.answers.specs.Said.{said}
 use Rattle.combine.specs.Outcome.{Outcome, outcomeOf, settle}
-use Rattle.placing.specs.Sizes.{tablesLength, entryOf, freshSegments}
+use Rattle.placing.specs.Sizes.{Cells, tablesLength, entryOf, freshSegments}
 use Rattle.rules.specs.Calls.{Request, Call, fresh, save, load, count, on}
 use Rattle.rules.specs.Effects.{Effect}
 use Rattle.rules.specs.Gates.{userGate, entryGate, startGate, imageGate}
@@ -23,64 +23,64 @@ use Rattle.cells.specs.Says.{houseOf, written}
 
 -- the cells of the store and of the tables
 pub record Lent : Type 0 where
-  pub store : List ℕ
-  pub tables : List ℕ
+  pub store : Cells
+  pub tables : Cells
 
-abbrev pub lent : List ℕ → List ℕ → Lent
+abbrev pub lent : (store tables : Cells) → Lent
 lent s t = record { store = s; tables = t }
 
 -- what a contract says of the code's answer and cells
-abbrev pub outcome : Answer → List ℕ → List ℕ → Outcome Lent
+abbrev pub outcome : Answer → (store tables : Cells) → Outcome Lent
 outcome r s t = outcomeOf (said r) (lent s t)
 
 -- ---- a request
 
 -- the tables are sound beside the store
-abbrev pub soundLent : List ℕ → List ℕ → Bool
+abbrev pub soundLent : (store tables : Cells) → Bool
 soundLent s t = soundb (length s) t
 
 -- the effect, at entry i with the opening x
-abbrev pub performed : List ℕ → List ℕ → ℕ → SegmentOpening → Effect → ℕ × Lent
+abbrev pub performed : (store tables : Cells) (entry : ℕ) → SegmentOpening → Effect → ℕ × Lent
 performed s t i x f =
     let c = perform (segmentLevel s) (houseOf t) x f in
     (c .answer, lent (performStore s (houseOf t) x f) (written t i c))
 
-unfoldable pub requestOut : Request → List ℕ → List ℕ → ℕ → ℕ → Outcome Lent
+unfoldable pub requestOut : Request → (store tables : Cells) (user entry : ℕ) → Outcome Lent
 requestOut r s t u e =
     let x = getD (houseOf t .openings) (entryOf u e) none in
     settle (lent s t) (entryGate (soundLent s t) u e (onDone (performed s t (entryOf u e) (orBlank (segmentLevel s) x)) (ruled (segmentLevel s) r u (houseOf t) x)))
 
 -- ---- the count of free segments, and the operator's calls: "none of them changes a store cell"
 
-unfoldable pub freeOut : List ℕ → List ℕ → ℕ → Outcome Lent
+unfoldable pub freeOut : (store tables : Cells) (user : ℕ) → Outcome Lent
 freeOut s t u = settle (lent s t) (userGate (soundLent s t) u (done (freeCount (houseOf t), lent s t)))
 
 -- tables of the right length, and a store of 64 cells or more
-abbrev pub lengthsb : List ℕ → List ℕ → Bool
+abbrev pub lengthsb : (store tables : Cells) → Bool
 lengthsb s t = eqb (length t) tablesLength && leb 64 (length s)
 
 -- "the tables keep that number"
-unfoldable pub freshOut : List ℕ → List ℕ → Outcome Lent
+unfoldable pub freshOut : (store tables : Cells) → Outcome Lent
 freshOut s t = settle (lent s t) (startGate (lengthsb s t) (done (0, lent s (freshTables (freshSegments (length s))))))
 
 -- ", and a load puts the image's there"
-unfoldable pub loadOut : List ℕ → List ℕ → List ℕ → Outcome Lent
+unfoldable pub loadOut : (store tables image : Cells) → Outcome Lent
 loadOut s t img = settle (lent s t) (imageGate (lengthsb s t) (imageb form1 (length s) img) (done (0, lent s (tablesFrom form1 img))))
 
 -- a save writes the lent image buffer too
 pub record Saved : Type 0 where
   pub cells : Lent
-  pub image : List ℕ
+  pub image : Cells
 
-abbrev pub saved : List ℕ → List ℕ → List ℕ → Saved
+abbrev pub saved : (store tables image : Cells) → Saved
 saved s t img = record { cells = lent s t; image = img }
 
-unfoldable pub saveOut : List ℕ → List ℕ → List ℕ → Outcome Saved
+unfoldable pub saveOut : (store tables image : Cells) → Outcome Saved
 saveOut s t img = settle (saved s t img) (imageGate (soundLent s t) (eqb (length img) (imageLength form1)) (done (0, saved s t (imageOf form1 t))))
 
 -- ---- any call
 
-abbrev pub callOut : Call → List ℕ → List ℕ → Outcome Lent
+abbrev pub callOut : Call → (store tables : Cells) → Outcome Lent
 callOut fresh s t = freshOut s t
 callOut (save img) s t = outcomeOf (saveOut s t img .answer) (saveOut s t img .after .cells)
 callOut (load img) s t = loadOut s t img
@@ -88,7 +88,7 @@ callOut (count u) s t = freeOut s t u
 callOut (on u e r) s t = requestOut r s t u e
 
 -- the lent image afterwards, for a call that has one
-abbrev pub callImage : Call → List ℕ → List ℕ → List ℕ
+abbrev pub callImage : Call → (store tables : Cells) → Cells
 callImage fresh s t = []
 callImage (save img) s t = saveOut s t img .after .image
 callImage (load img) s t = img

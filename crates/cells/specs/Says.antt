@@ -4,6 +4,7 @@ use mathlib.Core.Bool.{cond}
 use mathlib.Core.Option.{Option, none, some}
 use mathlib.Core.List.{List, _++_, map}
 use lib.ListN.{length, take, replicate}
+use Rattle.placing.specs.Sizes.{Cells}
 use Rattle.combine.specs.Lists.{tab}
 use Rattle.placing.specs.declared.Segment.{Segment}
 use Rattle.placing.specs.Placing.{segment, position}
@@ -25,19 +26,19 @@ recordIn r = filing (headingOf r) (take (heldByRecord r) (map segmentNumber (r .
 abbrev pub openingIn : Opening → SegmentOpening
 openingIn o = opening (handleIn o) (take (heldByOpening o) (map segmentNumber (o .segments)))
 
-unfoldable pub recordSays : Record → Option SegmentRecord
-recordSays r = cond (isUsed r) (some (recordIn r)) none
+unfoldable pub decodedRecord : Record → Option SegmentRecord
+decodedRecord r = cond (isUsed r) (some (recordIn r)) none
 
-unfoldable pub openingSays : Opening → Option SegmentOpening
-openingSays o = cond (isOpen o) (some (openingIn o)) none
+unfoldable pub decodedOpening : Opening → Option SegmentOpening
+decodedOpening o = cond (isOpen o) (some (openingIn o)) none
 
-unfoldable pub houseOf : List ℕ → SegmentHouse
-houseOf t = house (segmentsIn t) (tab 64 (λ p. recordSays (recordAt t p))) (tab 32 (λ i. openingSays (openingAt t i)))
+unfoldable pub houseOf : (tables : Cells) → SegmentHouse
+houseOf t = house (segmentsIn t) (tab 64 (λ p. decodedRecord (recordAt t p))) (tab 32 (λ i. decodedOpening (openingAt t i)))
 
 -- ---- to cells
 
 -- "Unused list places are zero"
-unfoldable pub inPlaces : List ℕ → List Segment
+unfoldable pub inPlaces : (segments : List ℕ) → List Segment
 inPlaces l = map segment (l ++ replicate (32 - length l) 0)
 
 unfoldable pub asRecord : Option SegmentRecord → Record
@@ -70,9 +71,9 @@ asOpening (some x) =
     }
 
 -- a change at entry i: one record at most, and one opening, are written
-abbrev pub filedIn : List ℕ → Filing (List ℕ) → List ℕ
+abbrev pub filedIn : (tables : Cells) → Filing (List ℕ) → Cells
 filedIn t kept = t
 filedIn t (becomes p r) = putRecord t p (asRecord r)
 
-unfoldable pub written : List ℕ → ℕ → Change (List ℕ) (List ℕ) → List ℕ
+unfoldable pub written : (tables : Cells) (entry : ℕ) → Change (List ℕ) (List ℕ) → Cells
 written t i c = putOpening (filedIn t (c .filing)) i (asOpening (c .entry))

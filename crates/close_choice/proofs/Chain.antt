@@ -7,16 +7,17 @@ use mathlib.Core.Option.{Option, none, some}
 use mathlib.Core.List.{List}
 use lib.Dec.{eqb, leb, ltb}
 use borrow.Author.Tests.{le-leb, lt-leb, lt-ltb, le-ltb, eq-eqb, ne-eqb, not-true, not-false}
-use Rattle.combine.specs.Below.{bad-left, bad-right, or-left, or-right}
+use Rattle.combine.specs.laws.Below.{bad-left, bad-right, or-left, or-right}
 use Rattle.combine.specs.First.{firstBelow}
 use Rattle.combine.specs.Lists.{any}
-use Rattle.combine.specs.Verdict.{Verdict, done, refused-here, went-on, refuse_when_else_}
+use Rattle.combine.specs.Verdict.{Verdict, done, refuse_when_else_}
+use Rattle.combine.specs.laws.Verdict.{refused-here, went-on}
 use Rattle.answers.specs.declared.Refusal.the-variants.{Public, Taken, Place}
 use Rattle.placing.specs.Sizes.{places}
 use Rattle.names.specs.Names.{isScratch}
 use Rattle.rules.specs.Headings.{Heading, passes}
 use Rattle.rules.specs.Effects.{Effect, ended, filed}
-use Rattle.rules.specs.Rules.{isOwn, isPublic, headed, without, placeFor, vanish, closing}
+use Rattle.rules.specs.Rules.{isOwn, isPublic, headed, without, placeFor, vanish, closeRule}
 use Rattle.tables.specs.declared.Opening.{Opening}
 use Rattle.tables.specs.Layout.{recordAt}
 use Rattle.tables.specs.Fields.{isUsed}
@@ -130,9 +131,9 @@ module _ (t : List ℕ) (u : ℕ) (o : Opening) (public : Bool) where
       (refuse_when_else_ 17 (files && leb places p)
       (done (cond files (filed p (headed public u (handleIn o))) (cond permit (vanish (placeOf (o .place))) ended)))))
 
-  closing-as : closing public u (headings t) (handleIn o) ≡ closes-as (isScratch (o .name)) (eqb (o .permit) 1)
-  unfolding closing takenb closes-as
-  closing-as =
+  close-as : closeRule public u (headings t) (handleIn o) ≡ closes-as (isScratch (o .name)) (eqb (o .permit) 1)
+  unfolding closeRule takenb closes-as
+  close-as =
       ap (λ (m : ℕ). let scratch = isScratch (o .name) in let permit = eqb (o .permit) 1 in let files = permit && not scratch in let p = placeFor (headings t) (placeOf (o .place)) in
       refuse_when_else_ 18 (public && (not permit || scratch))
       (refuse_when_else_ 16 (files && takenb (without (headings t) (placeOf (o .place))) u (o .name) public)
@@ -144,25 +145,25 @@ module _ (t : List ℕ) (u : ℕ) (o : Opening) (public : Bool) where
   unfolding closes-as refuse_when_else_
   ends permit scratch e f = rw (e, f, and-true public)
 
-  ending-out : (b : Bool) → eqb (o .permit) 1 ≡ b → (b && not (isScratch (o .name))) ≡ false → (not b || isScratch (o .name)) ≡ true → endingOf (o .permit) (o .place) public ≡ closing public u (headings t) (handleIn o)
+  ending-out : (b : Bool) → eqb (o .permit) 1 ≡ b → (b && not (isScratch (o .name))) ≡ false → (not b || isScratch (o .name)) ≡ true → endingOf (o .permit) (o .place) public ≡ closeRule public u (headings t) (handleIn o)
   unfolding endingOf
   ending-out b p e f =
       ap (λ (x : Bool). refuse_when_else_ 18 public (done (cond x (vanish (placeOf (o .place))) ended))) p
-      ∙ sym (closing-as ∙ ap (closes-as (isScratch (o .name))) p ∙ ends b (isScratch (o .name)) e f)
+      ∙ sym (close-as ∙ ap (closes-as (isScratch (o .name))) p ∙ ends b (isScratch (o .name)) e f)
 
-  pub scratch-closed : isScratch (o .name) ≡ true → endingOf (o .permit) (o .place) public ≡ closing public u (headings t) (handleIn o)
+  pub scratch-closed : isScratch (o .name) ≡ true → endingOf (o .permit) (o .place) public ≡ closeRule public u (headings t) (handleIn o)
   scratch-closed e =
       let b = eqb (o .permit) 1 in
       ending-out b refl (bad-right b _ (ap not e)) (or-right (not b) _ e)
 
   module _ (named : isScratch (o .name) ≡ false) where
-    pub read-closed : o .permit ≢ 1 → endingOf (o .permit) (o .place) public ≡ closing public u (headings t) (handleIn o)
+    pub read-closed : o .permit ≢ 1 → endingOf (o .permit) (o .place) public ≡ closeRule public u (headings t) (handleIn o)
     read-closed d = ending-out false (ne-eqb (o .permit) 1 d) refl refl
 
-    pub work-closed : o .permit ≡ 1 → filingOf t u (o .name) (o .place) public (handleIn o) ≡ closing public u (headings t) (handleIn o)
+    pub work-closed : o .permit ≡ 1 → filingOf t u (o .name) (o .place) public (handleIn o) ≡ closeRule public u (headings t) (handleIn o)
     unfolding filingOf closes-as refuse_when_else_
     work-closed e =
         sym
-        (closing-as
+        (close-as
         ∙ (λ i. closes-as (named i) (eq-eqb (o .permit) 1 e i))
         ∙ ap (λ (b : Bool). refuse_when_else_ 18 b (filingOf t u (o .name) (o .place) public (handleIn o))) (and-false public))

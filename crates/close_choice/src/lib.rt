@@ -3,7 +3,7 @@ ghost use mathlib.Core.Path.{_≡_};
 ghost use Prim.Native.Nat.{ℕ, _≤_};
 ghost use lib.ListN.{length};
 ghost use Rattle.placing.specs.Sizes.{places, tablesLength};
-ghost use Rattle.rules.specs.Rules.{without, placeFor, closing};
+ghost use Rattle.rules.specs.Rules.{without, placeFor, closeRule};
 ghost use Rattle.tables.specs.Handles.{handleIn, placeOf};
 ghost use Rattle.catalogue_laws.specs.Places.{headings};
 ghost use Rattle.tables.specs.declared.Opening as opening;
@@ -84,7 +84,7 @@ fn filing(tables: &[u32], user: u32, name: &[u32; 12], place: u32, public: bool)
 
 pub fn decide(tables: &[u32], user: u32, opening: Opening, public: bool) -> Plan
     requires { ⌜ (length (now tables) ≡ tablesLength) × (opening .place ≤ places) ⌝ }
-    ensures verdict { λ r. ⌜ planned user opening r ≡ closing public user (headings (now (tables .entry))) (handleIn opening) ⌝ }
+    ensures verdict { λ r. ⌜ planned user opening r ≡ closeRule public user (headings (now (tables .entry))) (handleIn opening) ⌝ }
     ensures range { λ r. ⌜ InRange r ⌝ }
 {
     let name = opening.name;

@@ -7,9 +7,10 @@ use native.Mathlib.Omega.{arith}
 use mir.Val.{boolByte}
 use lib.Dec.{eqb, eqb·suc-zero}
 use lib.ListN.{length, getD}
-use Rattle.combine.specs.Below.{allBelow, all-suc}
+use Rattle.combine.specs.Below.{allBelow}
+use Rattle.combine.specs.laws.Below.{all-suc}
 use Rattle.combine.specs.Lists.{isIn}
-use Rattle.combine.specs.Any.{not-in}
+use Rattle.combine.specs.laws.Any.{not-in}
 
 add-byte : (n : ℕ) (b : Bool) → eqb (n + boolByte b) 0 ≡ (eqb n 0 && not b)
 add-byte n true =

@@ -10,7 +10,8 @@ use lib.Bits.{bitOr, or-zero-l, or-add-and, and-le-r}
 use borrow.Author.Tests.{ne-eqb}
 use lib.ListN.{length, getD, take, set}
 use lib.Seq.{take-suc, take-suc-set, take-all}
-use Rattle.combine.specs.Below.{allBelow, all-suc, failed}
+use Rattle.combine.specs.Below.{allBelow, failed}
+use Rattle.combine.specs.laws.Below.{all-suc}
 
 -- the first k of a list are those of another: one more
 pub fill-turn : (wanted cells : List ℕ) (k v : ℕ) → k < length wanted → length cells ≡ length wanted → v ≡ getD wanted k 0 → take k cells ≡ take k wanted → take (k + 1) (set cells k v) ≡ take (k + 1) wanted

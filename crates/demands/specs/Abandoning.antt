@@ -66,7 +66,7 @@ NoLoad (c ∷ cs) x = T (not (isLoad c && isDone (outcomeOn c x .answer))) × No
 -- differ; it is struck out itself
 
 pub data Fate : Type 0 where
-  stays counts struck : Fate
+  remains counts struck : Fate
 
 abbrev pub isCount : Call → Bool
 isCount fresh = false
@@ -76,7 +76,7 @@ isCount (count u) = true
 isCount (on v d r) = false
 
 abbrev pub leftFate : Call → Fate
-leftFate c = cond (isCount c) counts stays
+leftFate c = cond (isCount c) counts remains
 
 abbrev pub betweenFate : ℕ → ℕ → Call → Fate
 betweenFate u e c = cond (isOn u e c) struck (leftFate c)
@@ -89,7 +89,7 @@ strike u e (c ∷ cs) = cond (isOn u e c) (strike u e cs) (c ∷ strike u e cs)
 abbrev pub heard : List Fate → List Report → List Report
 heard [] l = []
 heard (f ∷ fs) [] = []
-heard (stays ∷ fs) (a ∷ l) = a ∷ heard fs l
+heard (remains ∷ fs) (a ∷ l) = a ∷ heard fs l
 heard (counts ∷ fs) (a ∷ l) = heard fs l
 heard (struck ∷ fs) (a ∷ l) = heard fs l
 
@@ -103,20 +103,20 @@ pub record Story : Type 0 where
   pub between : List Call
   pub later : List Call
 
-abbrev pub opening : Story → Call
-opening h = on (h .user) (h .entry) (opens (h .way))
+abbrev pub openingCall : Story → Call
+openingCall h = on (h .user) (h .entry) (opens (h .way))
 
 abbrev pub abandoning : Story → Call
 abandoning h = on (h .user) (h .entry) abandons
 
 abbrev pub whole : Story → List Call
-whole h = h .before ++ opening h ∷ (h .between ++ abandoning h ∷ h .later)
+whole h = h .before ++ openingCall h ∷ (h .between ++ abandoning h ∷ h .later)
 
 abbrev pub rest : Story → List Call
 rest h = h .before ++ (strike (h .user) (h .entry) (h .between) ++ h .later)
 
 abbrev pub allStay : List Call → List Fate
-allStay cs = map (λ c. stays) cs
+allStay cs = map (λ c. remains) cs
 
 abbrev pub wholeFates : Story → List Fate
 wholeFates h = allStay (h .before) ++ struck ∷ (map (betweenFate (h .user) (h .entry)) (h .between) ++ struck ∷ allStay (h .later))
@@ -126,9 +126,9 @@ restFates h = allStay (h .before) ++ (map leftFate (strike (h .user) (h .entry) 
 
 -- the opening is done, it goes on till the abandonment, and the others are not crowded out by it
 pub record Abandoned (h : Story) (x : Lent) : Type 0 where
-  pub opened : T (isDone (outcomeOn (opening h) (final (h .before) x) .answer))
-  pub quietly : Quiet (h .user) (h .entry) (h .between) (afterCall (opening h) (final (h .before) x))
-  pub noLoad : NoLoad (h .later) (final (h .before ++ opening h ∷ (h .between ++ abandoning h ∷ [])) x)
+  pub opened : T (isDone (outcomeOn (openingCall h) (final (h .before) x) .answer))
+  pub quietly : Quiet (h .user) (h .entry) (h .between) (afterCall (openingCall h) (final (h .before) x))
+  pub noLoad : NoLoad (h .later) (final (h .before ++ openingCall h ∷ (h .between ++ abandoning h ∷ [])) x)
 
 -- without the opening: "every remaining call gets the same answer, and permanent files, other openings and the number of free segments are
 -- the same at the end"; of a saved image all but the segment numbers

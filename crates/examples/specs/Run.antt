@@ -10,12 +10,12 @@ use Rattle.combine.specs.Verdict.{Said, refuse_when_else_}
 use Rattle.combine.specs.Outcome.{settle}
 use Rattle.names.specs.Names.{symbolsOf, nameOf, scratchName, isScratch}
 use Rattle.packing.specs.Packing.{field, putField, takeBits, putBits, cellsOf, sum, packed}
-use Rattle.placing.specs.Placing.{stretchOf, offsetOf, cellOf, bitOf, heldOf, claimOf, listPlace}
+use Rattle.placing.specs.Placing.{stretchOf, offsetOf, cellOf, bitOf, heldOf, claimOf, slotOf}
 use Rattle.placing.specs.Sizes.{widthOf, elementsOf}
 use Rattle.store.specs.Store.{elementAt, putElement, zeroed, copied, segmentOf}
 use Rattle.rules.specs.Calls.{Request}
-use Rattle.rules.specs.Access.{writing, nexting, preving, pointing, deleting, valuing, renaming}
-use Rattle.rules.specs.Rules.{lookUp, openNew, openedAs, openOld, headed, closing}
+use Rattle.rules.specs.Access.{writeRule, nextRule, prevRule, newPointerRule, deletePointerRule, valueRule, renameRule}
+use Rattle.rules.specs.Rules.{lookUp, openNew, openedAs, openOld, headed, closeRule}
 use Rattle.rules.specs.Gates.{userGate, entryGate, startGate}
 use Rattle.segments.specs.Free.{isFree, lowestFree}
 use Rattle.segments.specs.Deeds.{target, prepared}
@@ -27,7 +27,7 @@ use Rattle.cells.specs.Outcomes.{freshOut}
 
 -- what requests of user 2 by entry 0 answer, and the state that they leave
 unfoldable pub answersTo : List Request → State → List Said
-unfolding firstBelow refuse_when_else_ settle symbolsOf nameOf scratchName isScratch field putField takeBits putBits stretchOf offsetOf cellOf bitOf heldOf claimOf listPlace widthOf elementsOf elementAt putElement zeroed copied segmentOf writing nexting preving pointing deleting valuing renaming lookUp openNew openedAs openOld headed closing userGate entryGate isFree lowestFree target prepared
+unfolding firstBelow refuse_when_else_ settle symbolsOf nameOf scratchName isScratch field putField takeBits putBits stretchOf offsetOf cellOf bitOf heldOf claimOf slotOf widthOf elementsOf elementAt putElement zeroed copied segmentOf writeRule nextRule prevRule newPointerRule deletePointerRule valueRule renameRule lookUp openNew openedAs openOld headed closeRule userGate entryGate isFree lowestFree target prepared
 answersTo [] m = []
 answersTo (r ∷ rs) m =
     let o = requestOnSegments r 2 0 m in

@@ -12,8 +12,8 @@ use Rattle.placing.specs.Placing.{heldOf}
 use Rattle.tables.specs.Layout.{recordBase, openingBase}
 use Rattle.tables.specs.Fields.{heldByRecord, heldByOpening}
 use Rattle.tables.specs.Lists.{heldIn}
-use Rattle.tables.specs.Sound.{Ranged}
-use Rattle.tables.specs.ExtentFacts.{SoundExtent}
+use Rattle.tables.specs.laws.Sound.{Ranged}
+use Rattle.tables.specs.laws.ExtentFacts.{SoundExtent}
 use Rattle.sound_lists.specs.FieldCells as cells
 use Rattle.sound_lists.specs.ListCells as list
 use Rattle.sound_lists.specs.ListFacts.{record-at, opening-at}

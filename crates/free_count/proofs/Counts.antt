@@ -4,7 +4,8 @@ use mathlib.Core.Path.{_≡_, refl, sym}
 use mathlib.Core.Bool.{Bool, true, false}
 use native.Mathlib.Omega.{arith}
 use mir.Val.{boolByte}
-use Rattle.combine.specs.Below.{countBelow, count-hit, count-miss}
+use Rattle.combine.specs.Below.{countBelow}
+use Rattle.combine.specs.laws.Below.{count-hit, count-miss}
 
 pub count-start : (f : ℕ → Bool) → 0 ≡ countBelow 0 f
 unfolding countBelow

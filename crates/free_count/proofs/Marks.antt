@@ -9,13 +9,14 @@ use lib.Dec.{eqb}
 use lib.ListN.{length, getD, set, replicate}
 use lib.Seq.{getD-set-same, getD-set-other}
 use borrow.Author.Tests.{eq-eqb, ne-eqb}
-use Rattle.combine.specs.Below.{allBelow, countBelow, all-zero, all-suc}
+use Rattle.combine.specs.Below.{allBelow, countBelow}
+use Rattle.combine.specs.laws.Below.{all-zero, all-suc}
 use Rattle.combine.specs.Lists.{isIn}
 use Rattle.placing.specs.Sizes.{mostSegments}
 use Rattle.segments.specs.Free.{isFree, freeCount}
 use Rattle.tables.specs.Layout.{segmentsIn}
 use Rattle.tables.specs.Lists.{heldIn}
-use Rattle.tables.specs.Sound.{Ranged}
+use Rattle.tables.specs.laws.Sound.{Ranged}
 use Rattle.sound_lists.specs.ListFacts.{list-facts}
 use Rattle.cells.specs.Says.{houseOf}
 use Rattle.free_count.specs.Any.{count-cong}

@@ -4,9 +4,11 @@ use mathlib.Core.Path.{_≡_, refl, sym, ap, _∙_}
 use mathlib.Core.Bool.{Bool, not, _&&_, and-true, and-assoc}
 use native.Mathlib.Omega.{arith}
 use lib.ListN.{getD}
-use Rattle.combine.specs.Below.{allBelow, countBelow, all-cong}
-use Rattle.combine.specs.Lists.{any, tab, length-tab, tab-at}
-use Rattle.combine.specs.Any.{none-below}
+use Rattle.combine.specs.Below.{allBelow, countBelow}
+use Rattle.combine.specs.laws.Below.{all-cong}
+use Rattle.combine.specs.Lists.{any, tab}
+use Rattle.combine.specs.laws.Lists.{length-tab, tab-at}
+use Rattle.combine.specs.laws.Any.{none-below}
 
 pub all-join : (m n : ℕ) (f : ℕ → Bool) → allBelow (m + n) f ≡ (allBelow m f && allBelow n (λ j. f (m + j)))
 unfolding allBelow

@@ -11,22 +11,23 @@ use native.Mathlib.Decide.{ℕ-discrete}
 use lib.Dec.{eqb}
 use lib.ListN.{length, getD, take}
 use borrow.Author.Tests.{eq-eqb, ne-eqb, eqb-false, not-true}
-use Rattle.combine.specs.Below.{allBelow, all-at, all-make, all-bad, all-cong}
+use Rattle.combine.specs.Below.{allBelow}
+use Rattle.combine.specs.laws.Below.{all-at, all-make, all-bad, all-cong}
 use Rattle.combine.specs.Lists.{isIn, tab, part, any}
-use Rattle.combine.specs.Any.{not-or, not-in}
+use Rattle.combine.specs.laws.Any.{not-or, not-in}
 use Rattle.placing.specs.Placing.{segment}
 use Rattle.segments.specs.Free.{SegmentRecord, SegmentOpening, recordSegments, openingSegments, isFree}
 use Rattle.tables.specs.Layout.{segmentNumber, segmentsIn, recordBase, openingBase, recordAt, recordOf, openingAt, openingOf}
 use Rattle.tables.specs.Fields.{heldByRecord, heldByOpening, isUsed, isOpen}
 use Rattle.tables.specs.Lists.{heldIn, listed}
-use Rattle.tables.specs.Sound.{Ranged}
-use Rattle.tables.specs.RecordFacts.{record-not-unused}
-use Rattle.tables.specs.OpeningFacts.{opening-not-closed}
+use Rattle.tables.specs.laws.Sound.{Ranged}
+use Rattle.tables.specs.laws.RecordFacts.{record-not-unused}
+use Rattle.tables.specs.laws.OpeningFacts.{opening-not-closed}
 use Rattle.sound_lists.specs.ListCells.{record-held, opening-held}
 use Rattle.sound_lists.specs.ListFacts.{list-facts}
-use Rattle.cells.specs.Says.{recordIn, openingIn, recordSays, openingSays, houseOf}
+use Rattle.cells.specs.Says.{recordIn, openingIn, decodedRecord, decodedOpening, houseOf}
 use Rattle.free_count.specs.Any.{all-join, none-tab}
-use Rattle.tables.specs.Again.{numbers-again}
+use Rattle.tables.specs.laws.Again.{numbers-again}
 use Rattle.free_count.specs.Rows.{startOf, rowOf, part-part, take-part, start-record, start-opening, length-row, row-at}
 
 -- ---- what a record and an opening say of their segments is the row of their list
@@ -69,16 +70,16 @@ module _ (t : List ℕ) (w : Ranged t) where
       let e = w .0 in
       held-part t (openingBase i) 56 24 (heldByOpening (openingAt t i)) (let f = list-facts t w (64 + i) (omega arith) .held in let h = opening-held t i in omega arith) (omega arith) (omega arith)
 
-  pub record-row : (p : ℕ) → p < 64 → recordSegments (recordSays (recordAt t p)) ≡ rowOf t p
-  unfolding recordSays rowOf heldByRecord
+  pub record-row : (p : ℕ) → p < 64 → recordSegments (decodedRecord (recordAt t p)) ≡ rowOf t p
+  unfolding decodedRecord rowOf heldByRecord
   record-row p l =
       let r = recordAt t p in
       record-content (isUsed r) (recordIn r)
       ∙ said (r .used) (heldByRecord r) (recordBase p + 18) t _ (held-zero (r .used) _) (λ d. record-not-unused t (segmentsIn t) (w .1) p l d .used) (record-part p l)
       ∙ sym (λ j. part t (start-record p l j) (record-held t p l j))
 
-  pub opening-row : (i : ℕ) → i < 32 → openingSegments (openingSays (openingAt t i)) ≡ rowOf t (64 + i)
-  unfolding openingSays rowOf heldByOpening
+  pub opening-row : (i : ℕ) → i < 32 → openingSegments (decodedOpening (openingAt t i)) ≡ rowOf t (64 + i)
+  unfolding decodedOpening rowOf heldByOpening
   opening-row i l =
       let o = openingAt t i in
       let e : 64 + i - 64 ≡ i = omega arith in
@@ -93,14 +94,14 @@ module _ (t : List ℕ) (w : Ranged t) where
     pub free-rows : isFree (houseOf t) g ≡ allBelow 96 (λ i. not (isIn g (rowOf t i)))
     unfolding isFree houseOf
     free-rows =
-        not-or (any (λ r. isIn g (recordSegments r)) (tab 64 (λ p. recordSays (recordAt t p)))) (any (λ x. isIn g (openingSegments x)) (tab 32 (λ i. openingSays (openingAt t i))))
+        not-or (any (λ r. isIn g (recordSegments r)) (tab 64 (λ p. decodedRecord (recordAt t p)))) (any (λ x. isIn g (openingSegments x)) (tab 32 (λ i. decodedOpening (openingAt t i))))
         ∙ (λ j. filed j && entered j)
         ∙ sym (all-join 64 32 (λ i. not (isIn g (rowOf t i))))
       where
-        filed : not (any (λ r. isIn g (recordSegments r)) (tab 64 (λ p. recordSays (recordAt t p)))) ≡ allBelow 64 (λ i. not (isIn g (rowOf t i)))
+        filed : not (any (λ r. isIn g (recordSegments r)) (tab 64 (λ p. decodedRecord (recordAt t p)))) ≡ allBelow 64 (λ i. not (isIn g (rowOf t i)))
         filed = none-tab (λ r. isIn g (recordSegments r)) 64 _ none ∙ all-cong _ _ 64 (λ p l. ap (λ (x : List ℕ). not (isIn g x)) (record-row p l))
 
-        entered : not (any (λ x. isIn g (openingSegments x)) (tab 32 (λ i. openingSays (openingAt t i)))) ≡ allBelow 32 (λ i. not (isIn g (rowOf t (64 + i))))
+        entered : not (any (λ x. isIn g (openingSegments x)) (tab 32 (λ i. decodedOpening (openingAt t i)))) ≡ allBelow 32 (λ i. not (isIn g (rowOf t (64 + i))))
         entered = none-tab (λ x. isIn g (openingSegments x)) 32 _ none ∙ all-cong _ _ 32 (λ i l. ap (λ (x : List ℕ). not (isIn g x)) (opening-row i l))
 
     row-below : (i : ℕ) → i < 96 → not (isIn g (rowOf t i)) ≡ allBelow (heldIn t i) (λ k. not (eqb g (listed t i k)))

@@ -10,13 +10,13 @@ use lib.Dec.{ltb}
 use lib.ListN.{length, getD, take}
 use lib.Seq.{take-take, ext-getD}
 use borrow.Author.Tests.{lt-ltb, le-ltb}
-use Rattle.combine.specs.Numbers.{le-or-lt}
+use Rattle.combine.specs.laws.Numbers.{le-or-lt}
 use Rattle.combine.specs.Lists.{part}
-use Rattle.combine.specs.Parts.{length-part, getD-part}
+use Rattle.combine.specs.laws.Parts.{length-part, getD-part}
 use Rattle.placing.specs.Sizes.{tablesLength, mostHeld}
 use Rattle.tables.specs.Layout.{recordBase, openingBase}
 use Rattle.tables.specs.Lists.{heldIn, listed}
-use Rattle.tables.specs.Sound.{Ranged}
+use Rattle.tables.specs.laws.Sound.{Ranged}
 use Rattle.sound_lists.specs.ListCells.{record-number-cell, opening-number-cell}
 use Rattle.sound_lists.specs.ListFacts.{list-facts}
 

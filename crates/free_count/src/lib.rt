@@ -9,9 +9,9 @@ ghost use Rattle.combine.specs.Lists.{isIn};
 ghost use Rattle.placing.specs.Placing.{heldOf};
 ghost use Rattle.segments.specs.Free.{isFree, freeCount};
 ghost use Rattle.tables.specs.Lists.{heldIn};
-ghost use Rattle.tables.specs.Sound.{Ranged};
+ghost use Rattle.tables.specs.laws.Sound.{Ranged};
 ghost use Rattle.cells.specs.Says.{houseOf};
-ghost use Rattle.tables.specs.ExtentFacts.{SoundExtent};
+ghost use Rattle.tables.specs.laws.ExtentFacts.{SoundExtent};
 ghost use Rattle.free_count.specs.Rows.{startOf};
 use placing::Position;
 

@@ -5,10 +5,11 @@ use mathlib.Core.Bool.{true, false, not}
 use mathlib.Core.List.{List}
 use native.Mathlib.Omega.{arith}
 use lib.ListN.{getD, take, drop}
-use Rattle.combine.specs.Below.{allBelow, all-zero, all-more}
+use Rattle.combine.specs.Below.{allBelow}
+use Rattle.combine.specs.laws.Below.{all-zero, all-more}
 use Rattle.combine.specs.Lists.{isIn}
 use Rattle.segments.specs.Free.{isFree}
-use Rattle.tables.specs.Sound.{Ranged}
+use Rattle.tables.specs.laws.Sound.{Ranged}
 use Rattle.cells.specs.Says.{houseOf}
 use Rattle.free_lowest.specs.Held.{HeldRows}
 use Rattle.free_lowest.specs.Round.{wrapped, wrapped-low, round-start, round-turn, round-all}

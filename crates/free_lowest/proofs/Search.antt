@@ -12,16 +12,18 @@ use lib.Dec.{leb, ltb}
 use lib.ListN.{length, getD, set, take, drop}
 use lib.Seq.{getD-set-same, getD-set-other}
 use borrow.Author.Tests.{le-leb, leb-true, lt-ltb, le-ltb}
-use Rattle.combine.specs.Below.{allBelow, all-zero, all-suc, all-at, all-make, all-bad, all-cong}
-use Rattle.combine.specs.First.{firstBelow, first-zero, first-more, first-at}
+use Rattle.combine.specs.Below.{allBelow}
+use Rattle.combine.specs.laws.Below.{all-zero, all-suc, all-at, all-make, all-bad, all-cong}
+use Rattle.combine.specs.First.{firstBelow}
+use Rattle.combine.specs.laws.First.{first-zero, first-more, first-at}
 use Rattle.combine.specs.Lists.{isIn, part}
-use Rattle.combine.specs.Any.{byte-few}
-use Rattle.combine.specs.Numbers.{le-or-lt}
-use Rattle.combine.specs.Parts.{length-part}
+use Rattle.combine.specs.laws.Any.{byte-few}
+use Rattle.combine.specs.laws.Numbers.{le-or-lt}
+use Rattle.combine.specs.laws.Parts.{length-part}
 use Rattle.segments.specs.Free.{isFree, lowestFree}
 use Rattle.tables.specs.Layout.{segmentsIn}
 use Rattle.tables.specs.Lists.{heldIn}
-use Rattle.tables.specs.Sound.{Ranged}
+use Rattle.tables.specs.laws.Sound.{Ranged}
 use Rattle.sound_lists.specs.ListFacts.{list-facts}
 use Rattle.cells.specs.Says.{houseOf}
 use Rattle.free_count.specs.Rows.{startOf, rowOf, row-inside, row-fits}

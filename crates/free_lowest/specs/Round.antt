@@ -6,8 +6,9 @@ use mathlib.Core.Bool.{Bool, true, cond}
 use native.Mathlib.Omega.{arith}
 use lib.Dec.{ltb}
 use borrow.Author.Tests.{lt-ltb, le-ltb}
-use Rattle.combine.specs.Below.{allBelow, all-at, all-make}
-use Rattle.combine.specs.Numbers.{le-or-lt}
+use Rattle.combine.specs.Below.{allBelow}
+use Rattle.combine.specs.laws.Below.{all-at, all-make}
+use Rattle.combine.specs.laws.Numbers.{le-or-lt}
 
 -- the place x, of which those from n on stand for the first again
 unfoldable pub wrapped : ℕ → ℕ → ℕ

@@ -8,9 +8,9 @@ use native.Mathlib.Nat.{le-refl}
 use native.Mathlib.Omega.{arith}
 use lib.Dec.{eqb}
 use borrow.Author.Tests.{eq-eqb, ne-eqb, eqb-true, eqb-false}
-use Rattle.combine.specs.Below.{or-left, or-right, not-both, split-bool}
+use Rattle.combine.specs.laws.Below.{or-left, or-right, not-both, split-bool}
 use Rattle.combine.specs.Lists.{isIn}
-use Rattle.combine.specs.Numbers.{le-or-lt}
+use Rattle.combine.specs.laws.Numbers.{le-or-lt}
 
 -- the number after the run: each number of the row that is the next one moves it on
 unfoldable pub runEnd : List ℕ → ℕ → ℕ

@@ -4,7 +4,7 @@ ghost use Prim.Native.Nat.{_+_, _<_, _≤_};
 ghost use lib.ListN.{length};
 ghost use Rattle.placing.specs.Placing.{segment};
 ghost use Rattle.segments.specs.Free.{lowestFree};
-ghost use Rattle.tables.specs.Sound.{Ranged};
+ghost use Rattle.tables.specs.laws.Sound.{Ranged};
 ghost use Rattle.cells.specs.Says.{houseOf};
 ghost use Rattle.free_lowest.specs.Held.{HeldRows};
 ghost use Rattle.free_lowest.specs.Round.{wrapped};

@@ -9,12 +9,12 @@ use lib.ListN.{length, getD}
 use mir.Syntax.{w64}
 use mir.Val.{Fits}
 use borrow.Author.Tests.{eq-eqb, ne-eqb, lt-ltb, le-ltb}
-use Rattle.combine.specs.Parts.{getD-part}
+use Rattle.combine.specs.laws.Parts.{getD-part}
 use Rattle.answers.specs.declared.Refusal.{Refusal}
 use Rattle.answers.specs.declared.Refusal.the-variants.{Entry}
 use Rattle.tables.specs.Layout.{openingBase, openingOf, openingAt}
 use Rattle.tables.specs.Fields.{isOpen}
-use Rattle.tables.specs.Sound.{ranged-of}
+use Rattle.tables.specs.laws.Sound.{ranged-of}
 use Rattle.gate.specs.declared.Gate.{Gate}
 use Rattle.gate.specs.declared.Gate.the-variants.{No, At}
 use Rattle.gate.specs.Gates.{refusing, passOf, reachOf, opened}

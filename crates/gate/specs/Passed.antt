@@ -8,7 +8,7 @@ use native.Mathlib.Omega.{arith}
 use lib.Dec.{ltb}
 use lib.ListN.{length}
 use borrow.Author.Tests.{ltb-true, ltb-false}
-use Rattle.combine.specs.Below.{not-both}
+use Rattle.combine.specs.laws.Below.{not-both}
 use Rattle.combine.specs.Verdict.{refused, onDone}
 use Rattle.combine.specs.Outcome.{outcomeOf, settle}
 use Rattle.answers.specs.declared.Refusal.{Refusal}
@@ -25,7 +25,7 @@ use Rattle.tables.specs.Fields.{isOpen}
 use Rattle.tables.specs.Sound.{soundb}
 use Rattle.cells.specs.Says.{houseOf}
 use Rattle.cells.specs.Outcomes.{Lent, lent, outcome, soundLent, requestOut}
-use Rattle.cells.specs.Entered.{unsound-out, user-out, entry-out, request-closed}
+use Rattle.cells.specs.laws.Entered.{unsound-out, user-out, entry-out, request-closed}
 use Rattle.gate.specs.declared.Gate.{Gate}
 use Rattle.gate.specs.declared.Gate.the-variants.{No, At}
 use Rattle.gate.specs.Gates.{refusing, passOf, opened, reachOf}

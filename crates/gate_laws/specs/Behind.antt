@@ -6,12 +6,12 @@ use mathlib.Core.List.{List}
 use native.Mathlib.Nat.{add-zero}
 use native.Mathlib.Omega.{arith}
 use lib.ListN.{length, getD}
-use Rattle.combine.specs.Parts.{getD-part}
+use Rattle.combine.specs.laws.Parts.{getD-part}
 use Rattle.placing.specs.Sizes.{entries, entryOf, tablesLength}
 use Rattle.tables.specs.Layout.{openingBase, openingOf, openingAt}
 use Rattle.tables.specs.Fields.{isOpen}
-use Rattle.tables.specs.OpeningFacts.{SoundOpening, opening-facts}
-use Rattle.tables.specs.Sound.{ranged-of}
+use Rattle.tables.specs.laws.OpeningFacts.{SoundOpening, opening-facts}
+use Rattle.tables.specs.laws.Sound.{ranged-of}
 use Rattle.gate.specs.Passed.{Passed, Reached}
 
 -- the first cell of an opening

@@ -7,7 +7,7 @@ use lib.ListN.{length, getD, replicate}
 use Rattle.combine.specs.Rows.{allOf}
 use Rattle.combine.specs.Lists.{tab, part, joined}
 use Rattle.packing.specs.Packing.{packed, unpacked, rowOf, cellsOf}
-use Rattle.placing.specs.Sizes.{places}
+use Rattle.placing.specs.Sizes.{Cells, places}
 use Rattle.tables.specs.Layout.{recordBase, segmentsIn}
 use Rattle.tables.specs.Sound.{soundb}
 
@@ -37,32 +37,32 @@ headWidths = 8 ∷ 11 ∷ 13 ∷ []
 
 -- ---- from the tables t, "897 cells, bit-packed, most significant first": "Saving writes the records only, whatever is open."
 
-unfoldable pub headImage : Form → ℕ → List ℕ
+unfoldable pub headImage : Form → (segments : ℕ) → Cells
 headImage f n = cellsOf 1 (packed headWidths (f .number ∷ n ∷ 0 ∷ []))
 
-unfoldable pub recordImage : Form → List ℕ → ℕ → List ℕ
+unfoldable pub recordImage : Form → (tables : Cells) (place : ℕ) → Cells
 recordImage f t p = cellsOf (f .cells) (packed (f .widths) (part t (recordBase p) 50))
 
-unfoldable pub imageOf : Form → List ℕ → List ℕ
+unfoldable pub imageOf : Form → (tables : Cells) → Cells
 imageOf f t = headImage f (segmentsIn t) ++ joined (tab places (recordImage f t))
 
 -- ---- to the tables: nothing is open
 
 -- field k of cell 0
-unfoldable pub headField : List ℕ → ℕ → ℕ
+unfoldable pub headField : (image : Cells) (k : ℕ) → ℕ
 headField img k = getD (unpacked headWidths (rowOf (part img 0 1))) k 0
 
-unfoldable pub recordFrom : Form → List ℕ → ℕ → List ℕ
+unfoldable pub recordFrom : Form → (image : Cells) (place : ℕ) → Cells
 recordFrom f img p = unpacked (f .widths) (rowOf (part img (1 + f .cells * p) (f .cells)))
 
-unfoldable pub tablesFrom : Form → List ℕ → List ℕ
+unfoldable pub tablesFrom : Form → (image : Cells) → Cells
 tablesFrom f img = headField img 1 ∷ (joined (tab places (recordFrom f img)) ++ replicate 1792 0)
 
 -- ---- "Sound: form 1; 1 to 1,024 segments, fitting the store; names not empty, symbols 0 to 35 and then only 63; species 0 to 5; 1 <= begin
 -- <= end; at most 32 segments held; segment numbers in range and listed once; every bit called zero here is zero; the two name rules.":
 -- beside a store of so many cells, the image is of the form, the 13 bits of cell 0 are zero, and the tables that it gives are sound
 
-unfoldable pub imageb : Form → ℕ → List ℕ → Bool
+unfoldable pub imageb : Form → (cells : ℕ) (image : Cells) → Bool
 imageb f cells img =
     allOf
     (eqb (length img) (imageLength f)

@@ -10,19 +10,20 @@ use borrow.Author.Tests.{eqb-true, eq-eqb, leb-true, ltb-true, ltb-false}
 use lib.Dec.{eqb, leb, ltb, lit<}
 use lib.ListN.{length, getD}
 use lib.Pow.{pow-pos}
-use Rattle.combine.specs.Below.{allBelow, all-at, split-bool}
-use Rattle.combine.specs.Numbers.{le-or-lt}
-use Rattle.combine.specs.Rows.{each-of}
+use Rattle.combine.specs.Below.{allBelow}
+use Rattle.combine.specs.laws.Below.{all-at, split-bool}
+use Rattle.combine.specs.laws.Numbers.{le-or-lt}
+use Rattle.combine.specs.laws.Rows.{each-of}
 use Rattle.combine.specs.Lists.{part}
-use Rattle.combine.specs.Parts.{length-part, getD-part}
+use Rattle.combine.specs.laws.Parts.{length-part, getD-part}
 use Rattle.placing.specs.Placing.{segment}
 use Rattle.placing.specs.Sizes.{places, mostSegments}
-use Rattle.names.specs.Small.{name-small}
+use Rattle.names.specs.laws.Small.{name-small}
 use Rattle.tables.specs.Layout.{recordBase, recordOf, recordAt, segmentsIn}
 use Rattle.tables.specs.Records.{usedb, recordb, recordsb}
-use Rattle.tables.specs.ExtentFacts.{SoundList}
-use Rattle.tables.specs.RecordFacts.{usedb-facts}
-use Rattle.tables.specs.Sound.{Ranged}
+use Rattle.tables.specs.laws.ExtentFacts.{SoundList}
+use Rattle.tables.specs.laws.RecordFacts.{usedb-facts}
+use Rattle.tables.specs.laws.Sound.{Ranged}
 use Rattle.sound_extents.specs.Numbers.{segment-number}
 use Rattle.sound_records.specs.Unused.{unused-row}
 use Rattle.packing_rows.specs.Waiting.{Fitting}

@@ -6,7 +6,8 @@ use mathlib.Core.List.{List, [], _∷_, _++_}
 use borrow.Author.Tests.{leb-true}
 use lib.Dec.{leb}
 use lib.ListN.{length, getD, replicate}
-use Rattle.combine.specs.Below.{allBelow, all-at, left-of, right-of}
+use Rattle.combine.specs.Below.{allBelow}
+use Rattle.combine.specs.laws.Below.{all-at, left-of, right-of}
 use Rattle.packing.specs.Packing.{sum}
 use Rattle.packing_rows.specs.Waiting.{Narrow}
 use Rattle.image.specs.Image.{headWidths, recordWidths}

@@ -6,7 +6,7 @@ ghost use lib.ListN.{length, take, drop, replicate};
 ghost use Rattle.combine.specs.Lists.{joined, tab};
 ghost use Rattle.packing.specs.Packing.{packed, unpacked, rowOf, cellsOf};
 ghost use Rattle.placing.specs.Sizes.{tablesLength, places, mostSegments};
-ghost use Rattle.tables.specs.Sound.{Ranged};
+ghost use Rattle.tables.specs.laws.Sound.{Ranged};
 ghost use Rattle.image.specs.Image.{form1, imageLength, headWidths, recordWidths, headImage, recordImage, imageOf, recordFrom, tablesFrom};
 ghost use Rattle.image_code.specs.Fits.{Fits, Writable};
 

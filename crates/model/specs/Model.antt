@@ -8,8 +8,8 @@ use lib.ListN.{length, getD, take, drop, replicate}
 use Rattle.combine.specs.Lists.{total, put}
 use Rattle.placing.specs.Sizes.{widthOf}
 use Rattle.placing.specs.Placing.{heldOf}
-use Rattle.rules.specs.Headings.{Handle, Filed, Open, value, holds, placeIn}
-use Rattle.rules.specs.Effects.{Deed, stays, firstLeaves, lastLeaves, stores, Told, plain, element}
+use Rattle.rules.specs.Headings.{Handle, Filed, Open, value, holds, slotIn}
+use Rattle.rules.specs.Effects.{Deed, stays, firstLeaves, lastLeaves, stores, Delivered, plain, element}
 use Rattle.rules.specs.House.{House}
 use Rattle.rules.specs.Levels.{Level}
 
@@ -23,7 +23,7 @@ pub record Body : Type 0 where
   pub elements : List ℕ
   pub shared : List Bool
 
-abbrev pub body : List ℕ → List Bool → Body
+abbrev pub body : (elements : List ℕ) (shared : List Bool) → Body
 body l f = record { elements = l; shared = f }
 
 abbrev pub Files : Type 0
@@ -34,7 +34,7 @@ pub record Model : Type 0 where
   pub cells : ℕ
   pub house : Files
 
-abbrev pub model : ℕ → Files → Model
+abbrev pub model : (cells : ℕ) → Files → Model
 model n h = record { cells = n; house = h }
 
 -- ---- the number of free segments
@@ -59,30 +59,30 @@ free h = h .segments - (total heldBy (h .records) + total ownedBy (h .openings))
 
 -- a stretch is dropped if no position is left in it; a stretch that is stored into is the opening's own; "A written number too wide for the
 -- species loses its top bits"
-abbrev pub bodyAfter : Open Body → Handle → Deed → Body
+abbrev pub bodyAfter : Open Body → (afterwards : Handle) → Deed → Body
 bodyAfter x n stays = x .content
 bodyAfter x n firstLeaves = body (drop 1 (x .content .elements)) (drop (length (x .content .shared) - holds n) (x .content .shared))
 bodyAfter x n lastLeaves = body (take (length (x .content .elements) - 1) (x .content .elements)) (take (holds n) (x .content .shared))
 bodyAfter x n (stores v k) =
-    body (put (x .content .elements) (v - value (x .handle) 0) (k % 2 ^ widthOf (x .handle .species))) (put (x .content .shared) (placeIn (x .handle) v) false)
+    body (put (x .content .elements) (v - value (x .handle) 0) (k % 2 ^ widthOf (x .handle .species))) (put (x .content .shared) (slotIn (x .handle) v) false)
 
 abbrev pub elementsOfFile : Option File → List ℕ
 elementsOfFile none = []
 elementsOfFile (some r) = r .content
 
-abbrev pub saidByModel : Open Body → Told → ℕ
-saidByModel x (plain n) = n
-saidByModel x (element v) = getD (x .content .elements) (v - value (x .handle) 0) 0
+abbrev pub deliveredByModel : Open Body → Delivered → ℕ
+deliveredByModel x (plain n) = n
+deliveredByModel x (element v) = getD (x .content .elements) (v - value (x .handle) 0) 0
 
 -- to store takes a segment where the stretch has none, or the record's
 abbrev pub modelLevel : Level (List ℕ) Body
 modelLevel =
     record {
       room = λ h. ltb 0 (free h);
-      takes = λ h x v. getD (x .content .shared) (placeIn (x .handle) v) true;
+      takes = λ h x v. getD (x .content .shared) (slotIn (x .handle) v) true;
       empty = body [] [];
       shown = λ n r. body (elementsOfFile r) (replicate (holds n) true);
       filedAs = λ b. b .elements;
       after = λ h x n d. bodyAfter x n d;
-      says = saidByModel;
+      says = deliveredByModel;
     }

@@ -2,12 +2,11 @@
 use Prim.Native.Nat.{ℕ}
 use mathlib.Core.Bool.{true, cond}
 use mathlib.Core.Option.{Option, none, some}
-use mathlib.Core.List.{List}
 use lib.Dec.{eqb, leb}
 use lib.ListN.{length, getD}
 use Rattle.combine.specs.Verdict.{Said, done, isDone, onDone}
 use Rattle.combine.specs.Outcome.{Outcome, settle}
-use Rattle.placing.specs.Sizes.{entryOf}
+use Rattle.placing.specs.Sizes.{Cells, entryOf}
 use Rattle.image.specs.Image.{form1, imageLength}
 use Rattle.rules.specs.Calls.{Request, Call, fresh, save, load, count, on}
 use Rattle.rules.specs.Headings.{Open, isSome}
@@ -17,12 +16,12 @@ use Rattle.rules.specs.House.{closedDown, freshHouse, changed}
 use Rattle.rules.specs.Levels.{perform, ruled, orBlank}
 use Rattle.model.specs.Model.{Body, Files, Model, model, free, modelLevel}
 
-abbrev pub performOnModel : Model → ℕ → Open Body → Effect → ℕ × Model
+abbrev pub performOnModel : Model → (entry : ℕ) → Open Body → Effect → ℕ × Model
 performOnModel m i x f =
     let c = perform modelLevel (m .house) x f in
     (c .answer, model (m .cells) (changed (m .house) i c))
 
-unfoldable pub requestOnModel : Request → ℕ → ℕ → Model → Outcome Model
+unfoldable pub requestOnModel : Request → (user entry : ℕ) → Model → Outcome Model
 requestOnModel r u e m =
     let x = getD (m .house .openings) (entryOf u e) none in
     settle m (entryGate true u e (onDone (performOnModel m (entryOf u e) (orBlank modelLevel x)) (ruled modelLevel r u (m .house) x)))
@@ -33,7 +32,7 @@ abbrev pub filesOr : Files → Option Files → Files
 filesOr h none = h
 filesOr h (some f) = f
 
-abbrev pub step : (List ℕ → Option Files) → Call → Model → Outcome Model
+abbrev pub step : (look : Cells → Option Files) → Call → Model → Outcome Model
 step look fresh m = settle m (startGate (leb 64 (m .cells)) (done (0, model (m .cells) (freshHouse (m .cells)))))
 step look (save img) m = settle m (imageGate true (eqb (length img) (imageLength form1)) (done (0, m)))
 step look (load img) m = settle m (imageGate (leb 64 (m .cells)) (isSome (look img)) (done (0, model (m .cells) (filesOr (m .house) (look img)))))
@@ -57,5 +56,5 @@ abbrev pub report : Call → Said → Option Files → Report
 report c a f = record { answer = a; image = imageTold c a f }
 
 -- "Saving writes the records only, whatever is open."
-abbrev pub stepTold : (List ℕ → Option Files) → Call → Model → Report
+abbrev pub stepTold : (look : Cells → Option Files) → Call → Model → Report
 stepTold look c m = report c (step look c m .answer) (some (closedDown (m .house)))

@@ -9,7 +9,7 @@ use lib.ListN.{length, getD, take, drop, set, replicate, length-set, take-append
 use lib.Seq.{take-suc-set, drop-set-lt, drop-drop, drop-cons, length-take-le, take-append-add, take-at, take-all}
 use Rattle.names.specs.declared.Byte.the-variants.{Skipped, Symbol, Ending}
 use Rattle.names.specs.Names.{symbolsOf, nameOf}
-use Rattle.names.specs.Symbols.{byteOf, withByte, symbols-more}
+use Rattle.names.specs.laws.Symbols.{byteOf, withByte, symbols-more}
 
 -- the name of which `count` symbols stand in place, and those of `left` are to follow
 unfoldable pub filled : List ℕ → ℕ → List ℕ → List ℕ

@@ -1,4 +1,3 @@
 -- Names. Assumes nothing.
 pub mod Names
-pub mod Symbols
-pub mod Small
+pub mod laws

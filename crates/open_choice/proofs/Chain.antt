@@ -8,11 +8,12 @@ use native.Mathlib.Omega.{arith}
 use lib.Dec.{eqb, leb, ltb}
 use lib.ListN.{getD, List·getD-eq-default}
 use borrow.Author.Tests.{le-leb, lt-leb, lt-ltb, le-ltb, not-true, not-false}
-use Rattle.combine.specs.Below.{bad-left, bad-right, both}
+use Rattle.combine.specs.laws.Below.{bad-left, bad-right, both}
 use Rattle.combine.specs.First.{firstBelow}
 use Rattle.combine.specs.Lists.{any}
-use Rattle.combine.specs.Parts.{getD-part}
-use Rattle.combine.specs.Verdict.{refused-here, went-on, refuse_when_else_}
+use Rattle.combine.specs.laws.Parts.{getD-part}
+use Rattle.combine.specs.Verdict.{refuse_when_else_}
+use Rattle.combine.specs.laws.Verdict.{refused-here, went-on}
 use Rattle.answers.specs.declared.Refusal.the-variants.{Empty, NotYours, Unknown, NoWork, NotNow}
 use Rattle.placing.specs.Sizes.{entries, places}
 use Rattle.names.specs.Names.{isScratch}

@@ -21,8 +21,8 @@ use Rattle.tables.specs.declared.Opening.{Opening}
 use Rattle.tables.specs.Layout.{segmentNumber, positionNumber}
 use Rattle.tables.specs.Fields.{valueOf, heldByOpening}
 use Rattle.tables.specs.Handles.{handleIn, pointed}
-use Rattle.tables.specs.Again.{set-back}
-use Rattle.tables.specs.Pointers.{value-in}
+use Rattle.tables.specs.laws.Again.{set-back}
+use Rattle.tables.specs.laws.Pointers.{value-in}
 use Rattle.cells.specs.Says.{openingIn, inPlaces, asOpening}
 use Rattle.opening_laws.specs.Deeded.{withSegments, withSegment, firstLeft, lastLeft}
 use Rattle.opening_laws.specs.Held.{held-from-next, held-to-last}

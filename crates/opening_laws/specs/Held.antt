@@ -6,10 +6,10 @@ use mathlib.Core.Logic.{⊎-elim}
 use native.Mathlib.Nat.{add-div-right}
 use native.Mathlib.Omega.{arith}
 use borrow.Author.Tests.{lt-ltb, le-ltb}
-use Rattle.combine.specs.Numbers.{le-or-lt}
+use Rattle.combine.specs.laws.Numbers.{le-or-lt}
 use Rattle.placing.specs.Sizes.{greatestSpecies, elementsOf}
-use Rattle.placing.specs.Placing.{stretchOf, heldOf, listPlace}
-use Rattle.placing.specs.Sized.{elements-many, stretch-mono}
+use Rattle.placing.specs.Placing.{stretchOf, heldOf, slotOf}
+use Rattle.placing.specs.laws.Sized.{elements-many, stretch-mono}
 
 -- a file with elements, and an empty one
 pub held-some : (s b e : ℕ) → b < e → heldOf s b e ≡ stretchOf s (e - 1) - stretchOf s b + 1
@@ -35,13 +35,13 @@ module _ (s : ℕ) (h : s ≤ greatestSpecies) where
 
   module _ (b : ℕ) (first : 1 ≤ b) where
     -- a position of the file has a place in its list
-    pub place-within : (e x : ℕ) → b ≤ x → x < e → listPlace s b x < heldOf s b e
-    unfolding listPlace
+    pub place-within : (e x : ℕ) → b ≤ x → x < e → slotOf s b x < heldOf s b e
+    unfolding slotOf
     place-within e x l m = omega (arith, held-some s b e (omega arith), stretch-mono s h b x l, stretch-mono s h x (e - 1) (omega arith))
 
     -- the position after the last has the last place, or the next
-    pub place-at-end : (e : ℕ) → b ≤ e → listPlace s b e ≤ heldOf s b e
-    unfolding listPlace
+    pub place-at-end : (e : ℕ) → b ≤ e → slotOf s b e ≤ heldOf s b e
+    unfolding slotOf
     place-at-end e l = ⊎-elim (λ q. empty q) (λ q. some q) (le-or-lt e b)
       where
         empty : e ≤ b → stretchOf s e - stretchOf s b ≤ heldOf s b e
@@ -53,8 +53,8 @@ module _ (s : ℕ) (h : s ≤ greatestSpecies) where
             omega (arith, held-some s b e q, ap (stretchOf s) p, stretch-next (e - 1) (omega arith), stretch-mono s h b (e - 1) (omega arith))
 
     -- the file that ends behind position x
-    pub held-behind : (x : ℕ) → b ≤ x → heldOf s b (x + 1) ≡ listPlace s b x + 1
-    unfolding listPlace
+    pub held-behind : (x : ℕ) → b ≤ x → heldOf s b (x + 1) ≡ slotOf s b x + 1
+    unfolding slotOf
     held-behind x l =
         let p : x + 1 - 1 ≡ x = omega arith in
         held-some s b (x + 1) (omega arith) ∙ ap (λ (y : ℕ). stretchOf s y - stretchOf s b + 1) p

@@ -7,18 +7,18 @@ use native.Mathlib.Omega.{arith}
 use lib.Dec.{eqb}
 use lib.ListN.{length}
 use borrow.Author.Tests.{eqb-true, leb-true}
-use Rattle.combine.specs.Below.{all-at}
-use Rattle.combine.specs.Rows.{each-of}
+use Rattle.combine.specs.laws.Below.{all-at}
+use Rattle.combine.specs.laws.Rows.{each-of}
 use Rattle.placing.specs.Sizes.{greatestUser, greatestEntry, entries, entryOf, greatestSpecies, greatestEnd, mostHeld}
 use Rattle.placing.specs.Placing.{heldOf}
 use Rattle.tables.specs.Layout.{openingAt}
 use Rattle.tables.specs.Fields.{isOpen, valueOf}
 use Rattle.tables.specs.Records.{extentb}
 use Rattle.tables.specs.Openings.{openb, openingb, openingsb}
-use Rattle.tables.specs.Put.{opening-shaped-at}
-use Rattle.tables.specs.Sound.{ranged-of}
+use Rattle.tables.specs.laws.Put.{opening-shaped-at}
+use Rattle.tables.specs.laws.Sound.{ranged-of}
 use Rattle.cells.specs.Outcomes.{soundLent}
-use Rattle.cells.specs.Entered.{open-determined}
+use Rattle.cells.specs.laws.Entered.{open-determined}
 use Rattle.opening_laws.specs.Back.{OpenFile}
 
 open-extent : (t : List ℕ) (k : ℕ) → openingb t k ≡ true → isOpen (openingAt t k) ≡ true

@@ -10,7 +10,7 @@ use lib.Dec.{ltb}
 use borrow.Author.Tests.{lt-ltb, le-ltb}
 use lib.ListN.{length, getD, take, drop, set, replicate, length-append, length-map, length-replicate, length-drop, length-set, List·getD-map, List·getD-append, List·getD-eq-default}
 use lib.Seq.{length-take-le, take-all, getD-take, getD-drop, getD-append-add, getD-set-same, getD-set-other, ext-getD}
-use Rattle.combine.specs.Numbers.{le-or-lt, eq-or-ne}
+use Rattle.combine.specs.laws.Numbers.{le-or-lt, eq-or-ne}
 use Rattle.combine.specs.Lists.{put}
 use Rattle.placing.specs.declared.Segment.{Segment}
 use Rattle.placing.specs.Placing.{segment}

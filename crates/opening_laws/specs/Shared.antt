@@ -13,11 +13,12 @@ use lib.Dec.{eqb, leb}
 use lib.ListN.{length, getD, take, length-map, List·getD-map}
 use lib.Seq.{take-suc, getD-take, length-take-le}
 use borrow.Author.Tests.{eq-eqb, ne-eqb, eqb-true}
-use Rattle.combine.specs.Below.{or-left, or-right}
-use Rattle.combine.specs.Lists.{any, isIn, tab-at}
+use Rattle.combine.specs.laws.Below.{or-left, or-right}
+use Rattle.combine.specs.Lists.{any, isIn}
+use Rattle.combine.specs.laws.Lists.{tab-at}
 use Rattle.placing.specs.declared.Segment.{Segment}
 use Rattle.placing.specs.Sizes.{places}
-use Rattle.placing.specs.Placing.{segment, heldOf, listPlace}
+use Rattle.placing.specs.Placing.{segment, heldOf, slotOf}
 use Rattle.store.specs.Store.{segmentOf}
 use Rattle.segments.specs.Free.{recordSegments, placeSegments}
 use Rattle.segments.specs.Deeds.{lacks, segmentAt, sharesAt}
@@ -26,8 +27,8 @@ use Rattle.tables.specs.declared.Opening.{Opening}
 use Rattle.tables.specs.Layout.{segmentNumber, recordAt}
 use Rattle.tables.specs.Fields.{isUsed, valueOf, numberAt, heldByRecord, recordFor}
 use Rattle.tables.specs.Handles.{handleIn, placeOf}
-use Rattle.tables.specs.Pointers.{value-in}
-use Rattle.cells.specs.Says.{recordSays, openingIn, houseOf}
+use Rattle.tables.specs.laws.Pointers.{value-in}
+use Rattle.cells.specs.Says.{decodedRecord, openingIn, houseOf}
 use Rattle.opening_laws.specs.Back.{OpenFile, length-in, segment-listed}
 
 -- ---- the number is among the first so many of a list of segments
@@ -72,8 +73,8 @@ unfoldable pub sharesNumber : List ℕ → Opening → ℕ → Bool
 sharesNumber t o g = isIn g (placeSegments (houseOf t .records) (handleIn o .place))
 
 -- the list of a record in use
-record-lists : (r : Record) → isUsed r ≡ true → recordSegments (recordSays r) ≡ take (heldOf (r .species) (r .begin .0) (r .end .0)) (map segmentNumber (r .segments))
-unfolding recordSays heldByRecord
+record-lists : (r : Record) → isUsed r ≡ true → recordSegments (decodedRecord r) ≡ take (heldOf (r .species) (r .begin .0) (r .end .0)) (map segmentNumber (r .segments))
+unfolding decodedRecord heldByRecord
 record-lists r u =
     let z : eqb (r .used) 0 ≡ false = ap (λ (k : ℕ). eqb k 0) (eqb-true (r .used) 1 u) in
     rw (u, z) refl
@@ -90,24 +91,24 @@ module _ (t : List ℕ) (o : Opening) (g : ℕ) where
   unfolding sharesNumber listsNumber houseOf
   shares-listed d l u =
       let p : placeOf (o .place) ≡ some (o .place - 1) = rw (ne-eqb (o .place) 0 d) refl in
-      let q : getD (houseOf t .records) (o .place - 1) none ≡ recordSays (recordFor t o) = tab-at 64 (λ k. recordSays (recordAt t k)) (o .place - 1) none (omega arith) in
+      let q : getD (houseOf t .records) (o .place - 1) none ≡ decodedRecord (recordFor t o) = tab-at 64 (λ k. decodedRecord (recordAt t k)) (o .place - 1) none (omega arith) in
       ap (λ x. isIn g (placeSegments (houseOf t .records) x)) p ∙ ap (λ x. isIn g (recordSegments x)) q ∙ ap (isIn g) (record-lists (recordFor t o) u)
 
 -- ---- a position of the opening
 
 module _ (o : Opening) (w : OpenFile o) (v : ℕ) where
   -- its stretch has no segment
-  pub lacks-in : lacks (openingIn o) v ≡ leb (heldOf (o .species) (valueOf o 0) (valueOf o 1)) (listPlace (o .species) (valueOf o 0) v)
-  lacks-in = λ i. leb (length-in o w i) (listPlace (o .species) (value-in o 0 i) v)
+  pub lacks-in : lacks (openingIn o) v ≡ leb (heldOf (o .species) (valueOf o 0) (valueOf o 1)) (slotOf (o .species) (valueOf o 0) v)
+  lacks-in = λ i. leb (length-in o w i) (slotOf (o .species) (value-in o 0 i) v)
 
   -- its segment
-  pub segment-in : segment (segmentAt (openingIn o) v) ≡ getD (o .segments) (listPlace (o .species) (valueOf o 0) v) (segment 0)
+  pub segment-in : segment (segmentAt (openingIn o) v) ≡ getD (o .segments) (slotOf (o .species) (valueOf o 0) v) (segment 0)
   unfolding segmentOf
   segment-in =
-      ap (λ (b : ℕ). segment (getD (openingIn o .content) (listPlace (o .species) b v) 0)) (value-in o 0)
-      ∙ segment-listed o w (listPlace (o .species) (valueOf o 0) v)
+      ap (λ (b : ℕ). segment (getD (openingIn o .content) (slotOf (o .species) b v) 0)) (value-in o 0)
+      ∙ segment-listed o w (slotOf (o .species) (valueOf o 0) v)
 
   -- that is the record's too
-  pub shares-in : (t : List ℕ) → sharesAt (houseOf t .records) (openingIn o) v ≡ sharesNumber t o (numberAt (o .segments) (listPlace (o .species) (valueOf o 0) v))
+  pub shares-in : (t : List ℕ) → sharesAt (houseOf t .records) (openingIn o) v ≡ sharesNumber t o (numberAt (o .segments) (slotOf (o .species) (valueOf o 0) v))
   unfolding sharesNumber
   shares-in t = λ i. isIn (segmentNumber (segment-in i)) (placeSegments (houseOf t .records) (handleIn o .place))

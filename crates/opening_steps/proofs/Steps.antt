@@ -11,7 +11,7 @@ use borrow.Author.Tests.{lt-ltb, le-ltb}
 use Rattle.placing.specs.declared.Segment.{Segment}
 use Rattle.placing.specs.declared.Position.{Position}
 use Rattle.placing.specs.Sizes.{mostHeld}
-use Rattle.placing.specs.Placing.{segment, position, heldOf, listPlace}
+use Rattle.placing.specs.Placing.{segment, position, heldOf, slotOf}
 use Rattle.tables.specs.declared.Opening.{Opening}
 use Rattle.tables.specs.Fields.{valueOf}
 use Rattle.tables.specs.Handles.{pointed}
@@ -32,8 +32,8 @@ module _ (o : Opening) (y : Position) (ey : y ≡ position (valueOf o 0)) where
   pub held-from : (h : ℕ) (z : Position) → h ≡ heldOf (o .species) (y .0) (z .0) → z ≡ position (valueOf o 1) → h ≡ heldOf (o .species) (valueOf o 0) (valueOf o 1)
   held-from h z e ez = e ∙ (λ i. heldOf (o .species) (ey i .0) (ez i .0))
 
-  pub place-from : (k x : ℕ) → k ≡ listPlace (o .species) (y .0) x → k ≡ listPlace (o .species) (valueOf o 0) x
-  place-from k x e = e ∙ ap (λ (j : Position). listPlace (o .species) (j .0) x) ey
+  pub place-from : (k x : ℕ) → k ≡ slotOf (o .species) (y .0) x → k ≡ slotOf (o .species) (valueOf o 0) x
+  place-from k x e = e ∙ ap (λ (j : Position). slotOf (o .species) (j .0) x) ey
 
 pub ruleset counts = (at-value, held-from, place-from)
 

@@ -4,7 +4,7 @@ ghost use mathlib.Core.List.{[], _∷_, _++_};
 ghost use Prim.Native.Nat.{_≤_, _<_};
 ghost use lib.ListN.{drop};
 ghost use Rattle.placing.specs.Sizes.{mostHeld};
-ghost use Rattle.placing.specs.Placing.{segment, heldOf, listPlace};
+ghost use Rattle.placing.specs.Placing.{segment, heldOf, slotOf};
 ghost use Rattle.tables.specs.Fields.{valueOf};
 ghost use Rattle.opening_laws.specs.Deeded.{withSegment, shifted, firstLeft, lastLeft};
 ghost use Rattle.opening_laws.specs.Back.{OpenFile};
@@ -26,10 +26,10 @@ pub fn holds(opening: Opening) -> u32
 // The place of a position's stretch in the opening's list.
 pub fn place_of(opening: Opening, position: Position) -> u32
     requires { ⌜ Spans opening × (valueOf opening 0 ≤ position .0) ⌝ }
-    ensures { λ r. ⌜ r ≡ listPlace (opening .species) (valueOf opening 0) (position .0) ⌝ }
+    ensures { λ r. ⌜ r ≡ slotOf (opening .species) (valueOf opening 0) (position .0) ⌝ }
 {
     let begin = Position::of(opening.value(0));
-    position.list_place(begin, opening.species)
+    position.slot(begin, opening.species)
 }
 
 // The list without its first segment: "Unused list places are zero".

@@ -6,7 +6,7 @@ use native.Mathlib.Omega.{arith}
 use lib.Pow.{pow-pos, pow-add, shl-exact}
 use lib.Pow as P
 use Rattle.packing.specs.Packing.{field, takeBits, putBits}
-use Rattle.packing.specs.Fields.{field-lt, put-sum}
+use Rattle.packing.specs.laws.Fields.{field-lt, put-sum}
 
 -- ---- what the two shifts of the code are
 

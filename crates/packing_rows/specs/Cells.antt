@@ -10,10 +10,10 @@ use lib.Seq.{ext-getD, getD-take, getD-drop}
 use lib.Dec.{lit≤, lit<}
 use lib.Arith.{digits-lt}
 use lib.Pow.{pow-add, high, low, mod-pow-add}
-use Rattle.combine.specs.Numbers.{le-or-lt}
+use Rattle.combine.specs.laws.Numbers.{le-or-lt}
 use Rattle.combine.specs.Lists.{part}
 use Rattle.packing.specs.Packing.{field, rowOf, cellsOf}
-use Rattle.packing.specs.Fields.{field-below}
+use Rattle.packing.specs.laws.Fields.{field-below}
 
 -- each is a number of 32 digits
 abbrev pub Cells : List ℕ → Type 0

@@ -9,7 +9,7 @@ use lib.Dec.{lit≤}
 use lib.Arith.{digits-lt}
 use lib.Pow.{pow-add, pow-pos, high, low, mod-pow-add, mod-mod-pow}
 use Rattle.packing.specs.Packing.{field, sum, packed, unpacked}
-use Rattle.packing.specs.Fields.{field-below}
+use Rattle.packing.specs.laws.Fields.{field-below}
 
 -- the numbers, each without what its width loses
 unfoldable pub trimmed : List ℕ → List ℕ → List ℕ

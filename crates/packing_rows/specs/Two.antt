@@ -7,7 +7,7 @@ use native.Mathlib.Omega.{arith}
 use lib.ListN.{length, length-append}
 use lib.Pow.{pow-add, shr-shr, high, low}
 use Rattle.packing.specs.Packing.{field, rowOf, cellsOf, sum, packed, unpacked}
-use Rattle.packing.specs.Fields.{field-below}
+use Rattle.packing.specs.laws.Fields.{field-below}
 use Rattle.packing_rows.specs.Cells.{Cells, row-lt}
 use Rattle.packing_rows.specs.Pack.{packed-lt, unpacked-low}
 

@@ -8,7 +8,8 @@ use native.Mathlib.Omega.{arith}
 use lib.Dec.{eqb}
 use lib.ListN.{length, getD, replicate}
 use borrow.Author.Tests.{eqb-true}
-use Rattle.combine.specs.Below.{allBelow, all-at}
+use Rattle.combine.specs.Below.{allBelow}
+use Rattle.combine.specs.laws.Below.{all-at}
 use Rattle.packing.specs.Packing.{field, rowOf, cellsOf, sum, packed, unpacked}
 
 field-zero : (w s : ℕ) → field w s 0 ≡ 0

@@ -5,8 +5,8 @@ use native.Mathlib.Nat.{div-mul-le-self, lt-mul-div-succ, div-le-self, mul-comm,
 use native.Mathlib.Omega.{arith}
 use borrow.Author.Tests.{lt-ltb, le-ltb}
 use Rattle.placing.specs.Sizes.{greatestEnd, greatestSpecies, widthOf, elementsOf}
-use Rattle.placing.specs.Sized.{sized, elements-many, offset-bits, stretch-mono}
-use Rattle.placing.specs.Placing.{stretchOf, offsetOf, heldOf, claimOf, listPlace}
+use Rattle.placing.specs.laws.Sized.{sized, elements-many, offset-bits, stretch-mono}
+use Rattle.placing.specs.Placing.{stretchOf, offsetOf, heldOf, claimOf, slotOf}
 
 module _ (s : ℕ) (h : s ≤ greatestSpecies) where
   pub bits-code : (x E w : ℕ) → E ≡ elementsOf s → w ≡ widthOf s → ((x - 1) % E * w ≡ offsetOf s x * widthOf s) × ((x - 1) % E * w < 2048)
@@ -27,13 +27,13 @@ module _ (s : ℕ) (h : s ≤ greatestSpecies) where
   unfolding claimOf
   claim-none b e q = rw (le-ltb b e (omega arith)) refl
 
-  pub held-some : (b e n : ℕ) → b < e → n ≡ listPlace s b (e - 1) → n + 1 ≡ heldOf s b e
-  unfolding heldOf listPlace
+  pub held-some : (b e n : ℕ) → b < e → n ≡ slotOf s b (e - 1) → n + 1 ≡ heldOf s b e
+  unfolding heldOf slotOf
   held-some b e n l q = rw (lt-ltb b e l) (omega arith)
 
   -- a list's place and 1 fit
-  pub place-fits : (b x n : ℕ) → x < 4294967295 → n ≡ listPlace s b x → n + 1 < 4294967296
-  unfolding listPlace stretchOf
+  pub place-fits : (b x n : ℕ) → x < 4294967295 → n ≡ slotOf s b x → n + 1 < 4294967296
+  unfolding slotOf stretchOf
   place-fits b x n l q = omega (arith, div-le-self (x - 1) (elementsOf s))
 
   pub stretch-fits : (e q : ℕ) → e ≤ greatestEnd → q ≡ stretchOf s (e - 1) → q + 1 < 4294967296

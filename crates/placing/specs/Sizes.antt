@@ -1,6 +1,6 @@
 -- "Sizes". Assumes nothing.
 use Prim.Native.Nat.{ℕ, _+_, _*_, _/_, min}
-use mathlib.Core.List.{[], _∷_}
+use mathlib.Core.List.{List, [], _∷_}
 use lib.ListN.{getD}
 
 -- "Users 0 to 7. Each user has entries 0 to 3"
@@ -14,17 +14,21 @@ greatestEntry = 3
 abbrev pub entries : ℕ
 entries = 32
 
-abbrev pub entryOf : ℕ → ℕ → ℕ
+abbrev pub entryOf : (user entry : ℕ) → ℕ
 entryOf u e = 4 * u + e
 
-abbrev pub userOf : ℕ → ℕ
+abbrev pub userOf : (entry : ℕ) → ℕ
 userOf i = i / 4
 
 -- "Catalogue: 64 places."
 abbrev pub places : ℕ
 places = 64
 
--- "A cell is a 32-bit number; a block is 16 cells; a segment is 4 blocks, 64 cells."
+-- "A cell is a 32-bit number": a row of cells, as of the store, the tables and an image
+abbrev pub Cells : Type 0
+Cells = List ℕ
+
+-- "a block is 16 cells; a segment is 4 blocks, 64 cells."
 abbrev pub segmentCells : ℕ
 segmentCells = 64
 
@@ -32,7 +36,7 @@ segmentCells = 64
 abbrev pub mostSegments : ℕ
 mostSegments = 1024
 
-abbrev pub freshSegments : ℕ → ℕ
+abbrev pub freshSegments : (cells : ℕ) → ℕ
 freshSegments cells = min mostSegments (cells / segmentCells)
 
 -- "A file holds at most 32 segments."
@@ -47,10 +51,10 @@ greatestEnd = 16777215
 abbrev pub greatestSpecies : ℕ
 greatestSpecies = 5
 
-unfoldable pub widthOf : ℕ → ℕ
+unfoldable pub widthOf : (species : ℕ) → ℕ
 widthOf s = getD (1 ∷ 2 ∷ 4 ∷ 8 ∷ 16 ∷ 32 ∷ []) s 0
 
-unfoldable pub elementsOf : ℕ → ℕ
+unfoldable pub elementsOf : (species : ℕ) → ℕ
 elementsOf s = getD (2048 ∷ 1024 ∷ 512 ∷ 256 ∷ 128 ∷ 64 ∷ []) s 0
 
 -- "The tables are a second lent slice; docs/ fixes its one length": the number of segments, 64 records of 50 cells, 32 openings of 56

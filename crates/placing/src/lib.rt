@@ -12,7 +12,7 @@ ghost use Rattle.placing.specs.Placing.{
   bitOf,
   heldOf,
   claimOf,
-  listPlace,
+  slotOf,
 };
 
 // "Species 0 to 5 have elements of 1, 2, 4, 8, 16 and 32 bits"
@@ -114,9 +114,9 @@ impl Position {
     }
 
     // The place of the position's stretch in the list of the segments of a file that begins at `begin`.
-    pub fn list_place(self, begin: Position, species: u32) -> u32
+    pub fn slot(self, begin: Position, species: u32) -> u32
         requires { ⌜ (1 ≤ begin .0) × (begin .0 ≤ self .0) × (species ≤ greatestSpecies) ⌝ }
-        ensures { λ r. ⌜ r ≡ listPlace species (begin .0) (self .0) ⌝ }
+        ensures { λ r. ⌜ r ≡ slotOf species (begin .0) (self .0) ⌝ }
     {
         let first = begin.stretch(species);
         self.stretch(species) - first
@@ -143,7 +143,7 @@ pub fn held(species: u32, begin: Position, end: Position) -> u32
         return 0;
     }
     let last = Position(beyond - 1);
-    last.list_place(begin, species) + 1
+    last.slot(begin, species) + 1
 }
 
 // "The claim is the number of positions from b to the end of the last held stretch, 0 for an empty file."

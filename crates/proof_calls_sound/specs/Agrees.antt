@@ -6,16 +6,16 @@ use mathlib.Core.Bool.{true}
 use mathlib.Core.List.{List}
 use borrow.Author.Tests.{lt-ltb, le-ltb}
 use lib.ListN.{length}
-use Rattle.combine.specs.Numbers.{le-or-lt}
+use Rattle.combine.specs.laws.Numbers.{le-or-lt}
 use Rattle.combine.specs.Verdict.{refuse_when_else_}
 use Rattle.combine.specs.Outcome.{settle}
 use Rattle.placing.specs.Sizes.{greatestUser, greatestEntry}
 use Rattle.rules.specs.Calls.{Request}
 use Rattle.rules.specs.Gates.{userGate, entryGate}
 use Rattle.segments.specs.State.{requestOnSegments}
-use Rattle.tables.specs.Sound.{ranged-of}
+use Rattle.tables.specs.laws.Sound.{ranged-of}
 use Rattle.cells.specs.Outcomes.{lent, soundLent, requestOut}
-use Rattle.cells.specs.Lowered.{stateOf, Lowers, request-lowered}
+use Rattle.cells.specs.laws.Lowered.{stateOf, Lowers, request-lowered}
 use Rattle.proof_cells_agree.specs.SoundSays.{sound-says}
 use Rattle.proof_calls_sound.specs.Fits.{all-fit}
 

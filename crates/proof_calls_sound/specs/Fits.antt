@@ -15,10 +15,10 @@ use Rattle.rules.specs.House.{house, refiled, changed}
 use Rattle.rules.specs.Levels.{perform, ruled, orBlank}
 use Rattle.segments.specs.Free.{SegmentRecord, SegmentOpening, SegmentHouse}
 use Rattle.segments.specs.Deeds.{segmentLevel}
-use Rattle.segments.specs.Sound.{Placed, SoundFiled, SoundPlace, SoundEntry, SoundHouse}
+use Rattle.segments.specs.laws.Sound.{Placed, SoundFiled, SoundPlace, SoundEntry, SoundHouse}
 use Rattle.cells.specs.Says.{houseOf}
-use Rattle.cells.specs.Written.{FitsRecord, FitsEntry, FitsFiling}
-use Rattle.cells.specs.Lowered.{Fits, AllFit}
+use Rattle.cells.specs.laws.Written.{FitsRecord, FitsEntry, FitsFiling}
+use Rattle.cells.specs.laws.Lowered.{Fits, AllFit}
 use Rattle.proof_requests_sound.specs.Lists.{place-below}
 use Rattle.proof_requests_sound.specs.Allowed.{PlaceOf, Filing, a-new, an-old, an-end, a-freeing, a-filing, a-use}
 use Rattle.proof_requests_sound.specs.Opened.{sound-at}

@@ -8,26 +8,26 @@ use mathlib.Core.List.{_∷_}
 use lib.ListN.{length, getD, replicate, length-replicate}
 use lib.Seq.{ext-getD}
 use Rattle.combine.specs.Lists.{part}
-use Rattle.combine.specs.Parts.{length-part, getD-part}
+use Rattle.combine.specs.laws.Parts.{length-part, getD-part}
 use Rattle.placing.specs.Sizes.{segmentCells, freshSegments, tablesLength}
-use Rattle.segments.specs.Sound.{SoundHouse}
+use Rattle.segments.specs.laws.Sound.{SoundHouse}
 use Rattle.tables.specs.declared.Record.{Record}
 use Rattle.tables.specs.declared.Opening.{Opening}
 use Rattle.tables.specs.Layout.{recordBase, openingBase, segmentsIn, freshTables, recordOf, recordAt, unusedRecord, openingOf, openingAt, closedOpening}
 use Rattle.tables.specs.Sound.{soundb}
-use Rattle.cells.specs.Says.{recordSays, openingSays, asRecord, asOpening}
-use Rattle.cells.specs.Operator.{fresh-says}
+use Rattle.cells.specs.Says.{decodedRecord, decodedOpening, asRecord, asOpening}
+use Rattle.cells.specs.laws.Operator.{fresh-says}
 use Rattle.proof_requests_sound.specs.Lists.{replicate-at}
 use Rattle.proof_requests_sound.specs.Fresh.{fresh-sound}
 use Rattle.proof_cells_agree.specs.Canonical.{Canonical}
 use Rattle.proof_cells_agree.specs.SaysSound.{says-sound}
 
-unused : asRecord (recordSays (recordOf (replicate 50 0))) ≡ recordOf (replicate 50 0)
-unfolding asRecord recordSays recordOf unusedRecord part
+unused : asRecord (decodedRecord (recordOf (replicate 50 0))) ≡ recordOf (replicate 50 0)
+unfolding asRecord decodedRecord recordOf unusedRecord part
 unused = refl
 
-closed : asOpening (openingSays (openingOf (replicate 56 0))) ≡ openingOf (replicate 56 0)
-unfolding asOpening openingSays openingOf closedOpening part
+closed : asOpening (decodedOpening (openingOf (replicate 56 0))) ≡ openingOf (replicate 56 0)
+unfolding asOpening decodedOpening openingOf closedOpening part
 closed = refl
 
 module _ (n : ℕ) where
@@ -50,8 +50,8 @@ module _ (n : ℕ) where
   fresh-canonical : Canonical (freshTables n)
   unfolding recordAt openingAt
   fresh-canonical = record {
-    records = λ p l. subst (λ (r : Record). asRecord (recordSays r) ≡ r) (sym (ap recordOf (fresh-part (recordBase p) 50 (omega arith) (omega arith)))) unused;
-    openings = λ i l. subst (λ (o : Opening). asOpening (openingSays o) ≡ o) (sym (ap openingOf (fresh-part (openingBase i) 56 (omega arith) (omega arith)))) closed;
+    records = λ p l. subst (λ (r : Record). asRecord (decodedRecord r) ≡ r) (sym (ap recordOf (fresh-part (recordBase p) 50 (omega arith) (omega arith)))) unused;
+    openings = λ i l. subst (λ (o : Opening). asOpening (decodedOpening o) ≡ o) (sym (ap openingOf (fresh-part (openingBase i) 56 (omega arith) (omega arith)))) closed;
   }
 
 -- "A fresh start gives it floor(length / 64) segments, at most 1,024"

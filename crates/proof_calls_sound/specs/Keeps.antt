@@ -5,16 +5,16 @@ use mathlib.Core.Logic.{⊎-elim}
 use mathlib.Core.Bool.{true, false}
 use mathlib.Core.List.{List}
 use lib.ListN.{length, getD}
-use Rattle.combine.specs.Below.{split-bool, not-both}
+use Rattle.combine.specs.laws.Below.{split-bool, not-both}
 use Rattle.combine.specs.Verdict.{isDone}
 use Rattle.combine.specs.Outcome.{Outcome}
 use Rattle.rules.specs.Calls.{Call, fresh, save, load, count, on}
-use Rattle.tables.specs.Sound.{ranged-of}
+use Rattle.tables.specs.laws.Sound.{ranged-of}
 use Rattle.cells.specs.Outcomes.{Lent, soundLent}
-use Rattle.cells.specs.Operator.{fresh-keeps-store, load-keeps-store, save-keeps-cells}
+use Rattle.cells.specs.laws.Operator.{fresh-keeps-store, load-keeps-store, save-keeps-cells}
 use Rattle.demands.specs.History.{outcomeOn}
 use Rattle.demands.specs.Demands.{Sound, KeepsSound, DoneIsSound, KeepsLengths, KeepsBeyond, starts}
-use Rattle.demands.specs.Unsound.{refuses-unsound}
+use Rattle.demands.specs.laws.Unsound.{refuses-unsound}
 use Rattle.proof_calls_sound.specs.Requests.{request-store-length, request-tables-length, request-sound, request-beyond}
 use Rattle.proof_calls_sound.specs.Fresh.{fresh-tables-length, fresh-tables-sound}
 use Rattle.proof_calls_sound.specs.Starts.{fresh-cases, load-cases, right-length, large-store, image-sound, count-keeps-cells}

@@ -8,25 +8,27 @@ use mathlib.Core.Option.{Option, none}
 use mathlib.Core.List.{List}
 use borrow.Author.Tests.{leb-true}
 use lib.ListN.{length, getD}
-use Rattle.combine.specs.Numbers.{le-or-lt}
-use Rattle.combine.specs.Rows.{each-of}
+use Rattle.combine.specs.laws.Numbers.{le-or-lt}
+use Rattle.combine.specs.laws.Rows.{each-of}
 use Rattle.combine.specs.Verdict.{Verdict, refused, done, onDone}
 use Rattle.combine.specs.Outcome.{Outcome, settle}
 use Rattle.placing.specs.Sizes.{greatestUser, greatestEntry, entryOf, segmentCells, tablesLength}
 use Rattle.rules.specs.Calls.{Request}
 use Rattle.rules.specs.Effects.{Effect}
-use Rattle.rules.specs.Gates.{entryGate, entered}
+use Rattle.rules.specs.Gates.{entryGate}
+use Rattle.rules.specs.laws.Gates.{entered}
 use Rattle.rules.specs.Levels.{perform, ruled, orBlank}
 use Rattle.segments.specs.Free.{SegmentOpening}
 use Rattle.segments.specs.Deeds.{segmentLevel}
 use Rattle.segments.specs.State.{State}
-use Rattle.segments.specs.Sound.{SoundHouse}
+use Rattle.segments.specs.laws.Sound.{SoundHouse}
 use Rattle.tables.specs.Layout.{segmentsIn}
-use Rattle.tables.specs.Sound.{numberb, soundb, ranged-of}
+use Rattle.tables.specs.Sound.{numberb, soundb}
+use Rattle.tables.specs.laws.Sound.{ranged-of}
 use Rattle.cells.specs.Says.{houseOf}
 use Rattle.cells.specs.Outcomes.{Lent, lent, soundLent, performed, requestOut}
-use Rattle.cells.specs.Entered.{user-out, entry-out}
-use Rattle.cells.specs.Lowered.{stateOf, AllFit}
+use Rattle.cells.specs.laws.Entered.{user-out, entry-out}
+use Rattle.cells.specs.laws.Lowered.{stateOf, AllFit}
 use Rattle.proof_requests_sound.specs.Requests.{request-keeps-sound}
 use Rattle.proof_requests_sound.specs.Beyond.{request-keeps-segments, request-keeps-store-length, request-keeps-beyond}
 use Rattle.proof_cells_agree.specs.SoundSays.{sound-says}

@@ -7,8 +7,8 @@ use mathlib.Core.List.{List}
 use borrow.Author.Tests.{eqb-true, leb-true}
 use lib.Dec.{eqb, leb, ltb}
 use lib.ListN.{length}
-use Rattle.combine.specs.Below.{left-of, right-of}
-use Rattle.combine.specs.Rows.{each-of}
+use Rattle.combine.specs.laws.Below.{left-of, right-of}
+use Rattle.combine.specs.laws.Rows.{each-of}
 use Rattle.combine.specs.Verdict.{Verdict, done, refused, refuse_when_else_}
 use Rattle.combine.specs.Outcome.{Outcome, outcomeOf, settle}
 use Rattle.placing.specs.Sizes.{greatestUser, freshSegments, segmentCells, tablesLength}

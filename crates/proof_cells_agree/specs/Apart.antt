@@ -13,8 +13,8 @@ use Rattle.combine.specs.Lists.{isIn}
 use Rattle.placing.specs.Sizes.{places, userOf}
 use Rattle.rules.specs.Headings.{handleOf, passes}
 use Rattle.segments.specs.Free.{SegmentRecord, SegmentOpening, SegmentHouse, recordSegments}
-use Rattle.segments.specs.Sound.{Tied, Placed, SoundOpen, SoundEntry, Alone}
-use Rattle.tables.specs.Lists.{Distinct}
+use Rattle.segments.specs.laws.Sound.{Tied, Placed, SoundOpen, SoundEntry, Alone}
+use Rattle.tables.specs.laws.Lists.{Distinct}
 use Rattle.cells.specs.Says.{houseOf}
 use Rattle.proof_requests_sound.specs.Tests.{and-intro}
 use Rattle.proof_requests_sound.specs.Away.{handle-at}

@@ -8,10 +8,10 @@ use mathlib.Core.Option.{Option, none, some}
 use mathlib.Core.List.{List}
 use lib.Dec.{T, T-not, not-T}
 use lib.ListN.{getD}
-use Rattle.combine.specs.Numbers.{le-or-lt}
+use Rattle.combine.specs.laws.Numbers.{le-or-lt}
 use Rattle.combine.specs.Lists.{total, isIn}
 use Rattle.segments.specs.Free.{SegmentRecord, SegmentOpening, SegmentHouse, recordSegments, placeSegments}
-use Rattle.segments.specs.Sound.{times, timesInRecord, timesInOpening, mentions}
+use Rattle.segments.specs.laws.Sound.{times, timesInRecord, timesInOpening, mentions}
 use Rattle.proof_requests_sound.specs.Tests.{by-test, true-of, false-of}
 use Rattle.proof_requests_sound.specs.Counts.{times-none}
 use Rattle.proof_cells_agree.specs.Lists.{total-zero, total-one, times-one}

@@ -9,15 +9,16 @@ use mathlib.Core.List.{List}
 use lib.Dec.{eqb}
 use borrow.Author.Tests.{lt-ltb, le-ltb, eqb-true, eq-eqb}
 use lib.ListN.{length, getD}
-use Rattle.combine.specs.Numbers.{le-or-lt}
-use Rattle.combine.specs.Below.{all-make, both, split-bool}
+use Rattle.combine.specs.laws.Numbers.{le-or-lt}
+use Rattle.combine.specs.laws.Below.{all-make, both, split-bool}
 use Rattle.combine.specs.Lists.{any, isIn}
 use Rattle.placing.specs.Sizes.{places, entries}
 use Rattle.segments.specs.Free.{SegmentRecord, SegmentOpening, SegmentHouse, recordSegments}
-use Rattle.segments.specs.Sound.{SoundPlace, SoundHouse}
+use Rattle.segments.specs.laws.Sound.{SoundPlace, SoundHouse}
 use Rattle.tables.specs.Layout.{recordAt, openingAt, unusedRecord, closedOpening}
 use Rattle.tables.specs.Fields.{heldByRecord, heldByOpening}
-use Rattle.tables.specs.Lists.{heldIn, listed, stretchIn, familyOf, Distinct, agree, distinctb}
+use Rattle.tables.specs.Lists.{heldIn, listed, stretchIn, familyOf, agree, distinctb}
+use Rattle.tables.specs.laws.Lists.{Distinct}
 use Rattle.cells.specs.Says.{houseOf, asRecord, asOpening}
 use Rattle.proof_requests_sound.specs.Tests.{by-test}
 use Rattle.proof_requests_sound.specs.Sums.{not-any}

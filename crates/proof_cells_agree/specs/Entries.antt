@@ -9,18 +9,18 @@ use mathlib.Core.List.{List, map}
 use lib.Dec.{T, eqb, eqb→eq}
 use borrow.Author.Tests.{eqb-true, eqb-false, eq-eqb, ne-eqb}
 use lib.ListN.{length, getD}
-use Rattle.combine.specs.Below.{all-at}
-use Rattle.combine.specs.Rows.{each-of}
+use Rattle.combine.specs.laws.Below.{all-at}
+use Rattle.combine.specs.laws.Rows.{each-of}
 use Rattle.placing.specs.Sizes.{entries, tablesLength}
 use Rattle.rules.specs.Headings.{Handle, handleOf, passes}
 use Rattle.rules.specs.House.{opensPlace, worksPlace}
 use Rattle.segments.specs.Free.{SegmentOpening}
-use Rattle.segments.specs.Sound.{Alone}
+use Rattle.segments.specs.laws.Sound.{Alone}
 use Rattle.tables.specs.Layout.{openingAt}
 use Rattle.tables.specs.Fields.{isOpen}
 use Rattle.tables.specs.Handles.{handleIn, placeOf}
 use Rattle.tables.specs.Openings.{workb, openb, openingb, openingsb}
-use Rattle.tables.specs.Put.{opening-shaped-at}
+use Rattle.tables.specs.laws.Put.{opening-shaped-at}
 use Rattle.cells.specs.Says.{houseOf}
 use Rattle.proof_requests_sound.specs.Tests.{and-first, and-second, eqb-ne}
 use Rattle.proof_cells_agree.specs.Lists.{passing-at}

@@ -7,12 +7,12 @@ use mathlib.Core.List.{List, [], _∷_, _++_, map}
 use borrow.Author.Tests.{leb-true, ltb-true, le-leb, lt-ltb, eq-eqb}
 use lib.ListN.{length, getD, take, replicate, length-map, List·getD-map, List·getD-eq-default}
 use lib.Seq.{length-take-le, getD-take}
-use Rattle.combine.specs.Below.{all-at, all-make}
-use Rattle.combine.specs.Rows.{each-of}
+use Rattle.combine.specs.laws.Below.{all-at, all-make}
+use Rattle.combine.specs.laws.Rows.{each-of}
 use Rattle.placing.specs.declared.Segment.{Segment}
 use Rattle.placing.specs.Sizes.{mostHeld, greatestEnd, greatestSpecies}
 use Rattle.placing.specs.Placing.{segment, heldOf}
-use Rattle.segments.specs.Sound.{SoundFile}
+use Rattle.segments.specs.laws.Sound.{SoundFile}
 use Rattle.tables.specs.Layout.{segmentNumber}
 use Rattle.tables.specs.Fields.{numberAt}
 use Rattle.tables.specs.Records.{extentb, listb}

@@ -9,10 +9,11 @@ use mathlib.Core.Option.{Option, none, some}
 use mathlib.Core.List.{List, [], _∷_, map}
 use lib.Dec.{T, eqb, eqb→eq}
 use lib.ListN.{length, getD, List·getD-eq-default, List·getD-map}
-use Rattle.combine.specs.Numbers.{le-or-lt}
-use Rattle.combine.specs.Lists.{any, total, tab, length-tab, tab-at}
+use Rattle.combine.specs.laws.Numbers.{le-or-lt}
+use Rattle.combine.specs.Lists.{any, total, tab}
+use Rattle.combine.specs.laws.Lists.{length-tab, tab-at}
 use Rattle.rules.specs.Headings.{passes}
-use Rattle.segments.specs.Sound.{times}
+use Rattle.segments.specs.laws.Sound.{times}
 use Rattle.proof_requests_sound.specs.Tests.{or-split}
 
 module _ {A : Type 0} where

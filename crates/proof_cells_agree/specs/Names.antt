@@ -10,21 +10,22 @@ use mathlib.Core.List.{List, map}
 use lib.Dec.{T, eqb, eqb→eq}
 use borrow.Author.Tests.{eq-eqb, not-true}
 use lib.ListN.{getD}
-use Rattle.combine.specs.Numbers.{less-or-more}
-use Rattle.combine.specs.Below.{allBelow, all-at, not-both, both, or-left, or-right}
-use Rattle.combine.specs.Rows.{each-of}
+use Rattle.combine.specs.laws.Numbers.{less-or-more}
+use Rattle.combine.specs.Below.{allBelow}
+use Rattle.combine.specs.laws.Below.{all-at, not-both, both, or-left, or-right}
+use Rattle.combine.specs.laws.Rows.{each-of}
 use Rattle.combine.specs.Lists.{same}
-use Rattle.combine.specs.Same.{same-true, true-same}
+use Rattle.combine.specs.laws.Same.{same-true, true-same}
 use Rattle.placing.specs.Sizes.{places}
 use Rattle.rules.specs.Headings.{Heading, headOf, passes}
 use Rattle.rules.specs.Rules.{isOwn, isPublic}
 use Rattle.segments.specs.Free.{SegmentRecord}
-use Rattle.segments.specs.Sound.{Single}
+use Rattle.segments.specs.laws.Sound.{Single}
 use Rattle.tables.specs.declared.Record.{Record}
 use Rattle.tables.specs.Layout.{recordAt}
 use Rattle.tables.specs.Fields.{isUsed}
 use Rattle.tables.specs.Handles.{headingOf}
-use Rattle.tables.specs.Records.{clash, aloneb, recordsb}
+use Rattle.tables.specs.Records.{clash, noClashb, recordsb}
 use Rattle.cells.specs.Says.{houseOf}
 use Rattle.proof_requests_sound.specs.Tests.{true-of, and-first, and-second}
 use Rattle.proof_cells_agree.specs.Lists.{passing-at}
@@ -57,13 +58,13 @@ passing t f p h =
     record { below = there .below; used = there .used; passed = subst (λ (r : SegmentRecord). T (f (r .head))) (sym (there .same)) (w .2) }
 
 module _ (t : List ℕ) (n : ℕ) (ok : recordsb t n ≡ true) where
-  alone-ok : (p : ℕ) → p < places → aloneb t p ≡ true
+  alone-ok : (p : ℕ) → p < places → noClashb t p ≡ true
   unfolding recordsb
   alone-ok p l = all-at _ places (each-of _ ok .1 .0) p l
 
   -- q stands before p
   earlier : (p q : ℕ) → p < places → q < p → isUsed (recordAt t p) ≡ true → clash (recordAt t p) (recordAt t q) ≡ true → ⊥
-  unfolding aloneb
+  unfolding noClashb
   earlier p q l before u c =
       let a : allBelow p (λ q. not (clash (recordAt t p) (recordAt t q))) ≡ true = rw u at (alone-ok p l) in
       not-both c (not-true (clash (recordAt t p) (recordAt t q)) (all-at _ p a q before))

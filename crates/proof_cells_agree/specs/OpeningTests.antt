@@ -9,21 +9,22 @@ use mathlib.Core.List.{List}
 use lib.Dec.{T, eqb, eqb-refl}
 use borrow.Author.Tests.{le-leb, eq-eqb, ne-eqb}
 use lib.ListN.{getD, List·getD-map}
-use Rattle.combine.specs.Numbers.{eq-or-ne}
-use Rattle.combine.specs.Below.{allBelow, all-make, or-left, or-right}
+use Rattle.combine.specs.laws.Numbers.{eq-or-ne}
+use Rattle.combine.specs.Below.{allBelow}
+use Rattle.combine.specs.laws.Below.{all-make, or-left, or-right}
 use Rattle.combine.specs.Rows.{allOf}
-use Rattle.combine.specs.Same.{true-same}
+use Rattle.combine.specs.laws.Same.{true-same}
 use Rattle.placing.specs.Sizes.{userOf, entries, places, mostHeld, greatestEnd}
 use Rattle.placing.specs.Placing.{position}
 use Rattle.rules.specs.Headings.{value, passes}
 use Rattle.segments.specs.Free.{SegmentRecord, SegmentOpening}
-use Rattle.segments.specs.Sound.{Tied, Placed, SoundOpen, SoundEntry, SoundHouse}
+use Rattle.segments.specs.laws.Sound.{Tied, Placed, SoundOpen, SoundEntry, SoundHouse}
 use Rattle.tables.specs.declared.Record.{Record}
 use Rattle.tables.specs.declared.Opening.{Opening}
 use Rattle.tables.specs.Layout.{positionNumber, segmentsIn, recordAt, openingAt, closedOpening}
 use Rattle.tables.specs.Fields.{isUsed, valueOf, numberAt, recordFor}
 use Rattle.tables.specs.Handles.{bit, placeNumber}
-use Rattle.tables.specs.Openings.{linkb, readb, workb, sharesb, pointersb, openb, closedb, openingb, openingsb}
+use Rattle.tables.specs.Openings.{linkb, readb, workb, besideRecordb, pointersb, openb, closedb, openingb, openingsb}
 use Rattle.cells.specs.Says.{inPlaces, houseOf, asRecord, asOpening}
 use Rattle.proof_requests_sound.specs.Tests.{true-of, and-intro}
 use Rattle.proof_requests_sound.specs.Away.{handle-at}
@@ -110,8 +111,8 @@ module _ (t : List ℕ) (canonical : Canonical t) (s : SoundHouse (houseOf t)) w
             (rw (handle-at (houseOf t .openings) j, ey) (at-p (y .handle .place) (place-again (y .handle .place) p (sym z ∙ q))))
 
     shares-tests : (p : ℕ) → x .handle .place ≡ some p → (r : SegmentRecord) → recordFor t (asOpening (some x)) ≡ asRecord (some r)
-        → eqb (asOpening (some x) .place) 0 ≡ false → (b : Bool) → x .handle .permit ≡ b → Tied b (userOf i) r x → sharesb t i (asOpening (some x)) ≡ true
-    unfolding sharesb
+        → eqb (asOpening (some x) .place) 0 ≡ false → (b : Bool) → x .handle .permit ≡ b → Tied b (userOf i) r x → besideRecordb t i (asOpening (some x)) ≡ true
+    unfolding besideRecordb
     shares-tests p e r er z true eb k =
         let permit : eqb (asOpening (some x) .permit) 0 ≡ false = ap (λ (k : ℕ). eqb k 0) (permit-written x ∙ ap bit eb) in
         rw (z, permit, er) (work-tests x t i r k (λ j l d q. no-other p e (rw eb tt) j l d (q ∙ ap placeNumber e)))
@@ -120,8 +121,8 @@ module _ (t : List ℕ) (canonical : Canonical t) (s : SoundHouse (houseOf t)) w
         rw (z, permit, er) (read-tests x i r k)
 
     place-tests : (q : Option ℕ) → x .handle .place ≡ q → Placed (userOf i) (houseOf t .records) x q
-        → (linkb t (asOpening (some x)) ≡ true) × (sharesb t i (asOpening (some x)) ≡ true) × (asOpening (some x) .place ≤ places)
-    unfolding linkb sharesb asRecord
+        → (linkb t (asOpening (some x)) ≡ true) × (besideRecordb t i (asOpening (some x)) ≡ true) × (asOpening (some x) .place ≤ places)
+    unfolding linkb besideRecordb asRecord
     place-tests none e w =
         let z : asOpening (some x) .place ≡ 0 = place-written x ∙ ap placeNumber e in
         let permit : eqb (asOpening (some x) .permit) 1 ≡ true = ap (λ (k : ℕ). eqb k 1) (permit-written x ∙ ap bit (true-of (x .handle .permit) w)) in

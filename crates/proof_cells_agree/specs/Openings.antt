@@ -10,23 +10,23 @@ use lib.Dec.{T, eqb}
 use borrow.Author.Tests.{eqb-true, eqb-false, leb-true}
 use lib.ListN.{length, getD, take, length-map, List·getD-eq-default}
 use lib.Seq.{ext-getD}
-use Rattle.combine.specs.Numbers.{le-or-lt}
-use Rattle.combine.specs.Below.{all-at}
-use Rattle.combine.specs.Rows.{each-of}
-use Rattle.combine.specs.Same.{same-true}
+use Rattle.combine.specs.laws.Numbers.{le-or-lt}
+use Rattle.combine.specs.laws.Below.{all-at}
+use Rattle.combine.specs.laws.Rows.{each-of}
+use Rattle.combine.specs.laws.Same.{same-true}
 use Rattle.placing.specs.Sizes.{userOf, places, mostHeld, greatestEnd, tablesLength}
 use Rattle.placing.specs.Placing.{segment, heldOf}
 use Rattle.rules.specs.Headings.{value}
 use Rattle.segments.specs.Free.{SegmentRecord}
-use Rattle.segments.specs.Sound.{SoundFile, OneStretch, Tied, Placed, SoundOpen}
+use Rattle.segments.specs.laws.Sound.{SoundFile, OneStretch, Tied, Placed, SoundOpen}
 use Rattle.tables.specs.declared.Record.{Record}
 use Rattle.tables.specs.declared.Opening.{Opening}
 use Rattle.tables.specs.Layout.{segmentNumber, segmentsIn, positionNumber}
 use Rattle.tables.specs.Fields.{isUsed, isOpen, valueOf, numberAt, recordFor, heldByRecord, heldByOpening}
 use Rattle.tables.specs.Handles.{handleIn, placeOf}
-use Rattle.tables.specs.Openings.{linkb, readb, workb, sharesb, pointersb, openb}
-use Rattle.tables.specs.Again.{ShapedRecord, ShapedOpening}
-use Rattle.tables.specs.Put.{record-shaped-at}
+use Rattle.tables.specs.Openings.{linkb, readb, workb, besideRecordb, pointersb, openb}
+use Rattle.tables.specs.laws.Again.{ShapedRecord, ShapedOpening}
+use Rattle.tables.specs.laws.Put.{record-shaped-at}
 use Rattle.cells.specs.Says.{recordIn, openingIn, houseOf}
 use Rattle.proof_requests_sound.specs.Tests.{or-first, or-second, or-split, true-of}
 use Rattle.proof_cells_agree.specs.There.{says-used, held-used, held-open, value-said, record-at}
@@ -102,7 +102,7 @@ module _ (t : List ℕ) (i : ℕ) (o : Opening) (w : ShapedOpening o) (ok : open
 
   -- read, or work
   pub shared : (permit : ℕ) → o .permit ≡ permit → eqb (o .place) 0 ≡ false → cond (eqb permit 0) (readb i o (recordFor t o)) (workb t i o (recordFor t o)) ≡ true
-  unfolding openb sharesb
+  unfolding openb besideRecordb
   shared permit e place =
       subst (λ (v : ℕ). cond (eqb v 0) (readb i o (recordFor t o)) (workb t i o (recordFor t o)) ≡ true) e (rw place at (each-of _ ok .1 .1 .1 .0))
 

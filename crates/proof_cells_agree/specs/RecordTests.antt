@@ -9,21 +9,23 @@ use mathlib.Core.List.{List, map}
 use lib.Dec.{T, eqb, eqb→eq}
 use borrow.Author.Tests.{le-leb, eq-eqb}
 use lib.ListN.{getD, List·getD-map}
-use Rattle.combine.specs.Below.{allBelow, all-make, split-bool}
-use Rattle.combine.specs.Rows.{allOf, each-of}
+use Rattle.combine.specs.Below.{allBelow}
+use Rattle.combine.specs.laws.Below.{all-make, split-bool}
+use Rattle.combine.specs.Rows.{allOf}
+use Rattle.combine.specs.laws.Rows.{each-of}
 use Rattle.combine.specs.Lists.{same}
-use Rattle.combine.specs.Same.{same-true, true-same}
+use Rattle.combine.specs.laws.Same.{same-true, true-same}
 use Rattle.placing.specs.Sizes.{greatestUser, places}
 use Rattle.rules.specs.Headings.{headOf, passes}
 use Rattle.rules.specs.Rules.{isOwn, isPublic}
 use Rattle.segments.specs.Free.{SegmentRecord}
-use Rattle.segments.specs.Sound.{SoundPlace, SoundHouse}
+use Rattle.segments.specs.laws.Sound.{SoundPlace, SoundHouse}
 use Rattle.tables.specs.declared.Record.{Record}
 use Rattle.tables.specs.Layout.{segmentsIn, recordAt, unusedRecord}
 use Rattle.tables.specs.Fields.{isUsed}
 use Rattle.tables.specs.Handles.{bit, headingOf}
-use Rattle.tables.specs.Records.{usedb, unusedb, recordb, clash, aloneb, recordsb}
-use Rattle.cells.specs.Says.{recordSays, houseOf, asRecord}
+use Rattle.tables.specs.Records.{usedb, unusedb, recordb, clash, noClashb, recordsb}
+use Rattle.cells.specs.Says.{decodedRecord, houseOf, asRecord}
 use Rattle.proof_requests_sound.specs.Tests.{or-split, and-first, and-second, and-intro}
 use Rattle.proof_cells_agree.specs.Rows.{enough, _also_, row}
 use Rattle.proof_cells_agree.specs.There.{says-used, record-at}
@@ -61,7 +63,7 @@ module _ (t : List ℕ) (canonical : Canonical t) (s : SoundHouse (houseOf t)) w
   unfolding houseOf
   record-tests p l =
       subst (λ (r : Record). recordb (segmentsIn t) r ≡ true) (canonical .records p l)
-      (place-tests (segmentsIn t) (recordSays (recordAt t p)) (subst (SoundPlace (segmentsIn t)) (record-at t p l) (s .records p)))
+      (place-tests (segmentsIn t) (decodedRecord (recordAt t p)) (subst (SoundPlace (segmentsIn t)) (record-at t p l) (s .records p)))
 
   -- ---- "No two records of one owner have one name; no two public records have one name."
 
@@ -97,8 +99,8 @@ module _ (t : List ℕ) (canonical : Canonical t) (s : SoundHouse (houseOf t)) w
       (public-there p (r .name) l used (eqb→eq (r .private) 0 (and-first (eqb (r .private) 0) (eqb (r′ .private) 0) o)) refl)
       (public-there q (r .name) lq (f .0) (eqb→eq (r′ .private) 0 (and-second (eqb (r .private) 0) (eqb (r′ .private) 0) o)) name))
 
-  alone-tests : (p : ℕ) → p < places → aloneb t p ≡ true
-  unfolding aloneb
+  alone-tests : (p : ℕ) → p < places → noClashb t p ≡ true
+  unfolding noClashb
   alone-tests p l = ⊎-elim (λ u. rw u (all-make _ p (λ q before. no q before u))) (λ u. rw u) (split-bool (isUsed (recordAt t p)))
     where
       no : (q : ℕ) → q < p → isUsed (recordAt t p) ≡ true → not (clash (recordAt t p) (recordAt t q)) ≡ true

@@ -6,16 +6,16 @@ use mathlib.Core.Bool.{true, false}
 use mathlib.Core.List.{List}
 use lib.Dec.{eqb}
 use borrow.Author.Tests.{eqb-true, leb-true}
-use Rattle.combine.specs.Below.{all-at, split-bool}
-use Rattle.combine.specs.Rows.{each-of}
+use Rattle.combine.specs.laws.Below.{all-at, split-bool}
+use Rattle.combine.specs.laws.Rows.{each-of}
 use Rattle.placing.specs.Sizes.{greatestUser, places}
-use Rattle.segments.specs.Sound.{SoundFiled, SoundPlace}
+use Rattle.segments.specs.laws.Sound.{SoundFiled, SoundPlace}
 use Rattle.tables.specs.declared.Record.{Record}
 use Rattle.tables.specs.Layout.{recordAt}
 use Rattle.tables.specs.Fields.{isUsed}
 use Rattle.tables.specs.Records.{usedb, recordb, recordsb}
-use Rattle.tables.specs.Again.{ShapedRecord}
-use Rattle.cells.specs.Says.{recordIn, recordSays}
+use Rattle.tables.specs.laws.Again.{ShapedRecord}
+use Rattle.cells.specs.Says.{recordIn, decodedRecord}
 use Rattle.proof_cells_agree.specs.There.{held-used}
 use Rattle.proof_cells_agree.specs.Files.{file-sound}
 
@@ -39,8 +39,8 @@ module _ (n : ℕ) (r : Record) where
   unfolding usedb
   private-bit ok u = leb-true (r .private) 1 (each-of _ (used-ok ok u) .1 .1 .1 .0)
 
-  pub place-sound : ShapedRecord r → recordb n r ≡ true → SoundPlace n (recordSays r)
-  unfolding recordSays
+  pub place-sound : ShapedRecord r → recordb n r ≡ true → SoundPlace n (decodedRecord r)
+  unfolding decodedRecord
   place-sound w ok = ⊎-elim (λ u. rw u (used-sound w (used-ok ok u))) (λ u. rw u tt) (split-bool (isUsed r))
 
 pub record-ok : (t : List ℕ) (n : ℕ) → recordsb t n ≡ true → (p : ℕ) → p < places → recordb n (recordAt t p) ≡ true

@@ -2,7 +2,7 @@
 use mathlib.Core.Path.{_≡_, refl}
 use mathlib.Core.Bool.{Bool, true}
 use mathlib.Core.List.{List, [], _∷_}
-use Rattle.combine.specs.Below.{both}
+use Rattle.combine.specs.laws.Below.{both}
 use Rattle.combine.specs.Rows.{allOf}
 
 infixr 4 _also_

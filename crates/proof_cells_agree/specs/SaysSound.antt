@@ -6,7 +6,7 @@ use mathlib.Core.List.{List}
 use borrow.Author.Tests.{le-leb, eq-eqb}
 use lib.ListN.{length}
 use Rattle.placing.specs.Sizes.{segmentCells, mostSegments, tablesLength}
-use Rattle.segments.specs.Sound.{SoundHouse}
+use Rattle.segments.specs.laws.Sound.{SoundHouse}
 use Rattle.tables.specs.Layout.{segmentsIn}
 use Rattle.tables.specs.Sound.{numberb, soundb}
 use Rattle.cells.specs.Says.{houseOf}

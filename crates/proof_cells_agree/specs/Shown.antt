@@ -16,7 +16,8 @@ use Rattle.tables.specs.declared.Opening.{Opening}
 use Rattle.tables.specs.Layout.{recordAt, openingAt}
 use Rattle.tables.specs.Fields.{valueOf, heldByRecord, heldByOpening}
 use Rattle.tables.specs.Handles.{placeOf, handleIn}
-use Rattle.tables.specs.Lists.{heldIn, listed, stretchIn, familyOf, Distinct}
+use Rattle.tables.specs.Lists.{heldIn, listed, stretchIn, familyOf}
+use Rattle.tables.specs.laws.Lists.{Distinct}
 use Rattle.cells.specs.Says.{recordIn, openingIn, houseOf}
 use Rattle.proof_cells_agree.specs.Wording.{Lists, recordStretch, openingStretch}
 use Rattle.proof_cells_agree.specs.There.{held-used, held-open, value-said, record-there, opening-there}

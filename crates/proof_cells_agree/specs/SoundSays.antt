@@ -7,19 +7,20 @@ use mathlib.Core.Option.{none, some}
 use mathlib.Core.List.{List, map}
 use borrow.Author.Tests.{leb-true}
 use lib.ListN.{length, getD}
-use Rattle.combine.specs.Below.{split-bool}
-use Rattle.combine.specs.Rows.{each-of}
-use Rattle.combine.specs.Lists.{length-tab}
+use Rattle.combine.specs.laws.Below.{split-bool}
+use Rattle.combine.specs.laws.Rows.{each-of}
+use Rattle.combine.specs.laws.Lists.{length-tab}
 use Rattle.placing.specs.Sizes.{places, entries, userOf, mostSegments, tablesLength}
 use Rattle.rules.specs.Headings.{handleOf, holds}
 use Rattle.segments.specs.Free.{SegmentOpening}
-use Rattle.segments.specs.Sound.{SoundPlace, SoundOpen, SoundEntry, Alone, SoundHouse}
+use Rattle.segments.specs.laws.Sound.{SoundPlace, SoundOpen, SoundEntry, Alone, SoundHouse}
 use Rattle.tables.specs.Layout.{segmentsIn, recordAt, openingAt}
 use Rattle.tables.specs.Fields.{isOpen}
-use Rattle.tables.specs.Lists.{Distinct, distinct-of}
-use Rattle.tables.specs.Sound.{numberb, soundb, ranged-of}
-use Rattle.tables.specs.Put.{record-shaped-at, opening-shaped-at}
-use Rattle.cells.specs.Says.{openingIn, recordSays, openingSays, houseOf}
+use Rattle.tables.specs.laws.Lists.{Distinct, distinct-of}
+use Rattle.tables.specs.Sound.{numberb, soundb}
+use Rattle.tables.specs.laws.Sound.{ranged-of}
+use Rattle.tables.specs.laws.Put.{record-shaped-at, opening-shaped-at}
+use Rattle.cells.specs.Says.{openingIn, decodedRecord, decodedOpening, houseOf}
 use Rattle.proof_cells_agree.specs.Wording.{Apart}
 use Rattle.proof_cells_agree.specs.There.{says-open, each-record, each-opening, opening-at, opening-there}
 use Rattle.proof_cells_agree.specs.Records.{record-ok, place-sound}
@@ -59,7 +60,7 @@ module _ (cells : ℕ) (t : List ℕ) (ok : soundb cells t ≡ true) where
       (λ r e j k jl kl q. mixed-apart t distinct each-held opening-held (getD (r .content) k 0) (o .place - 1) i k j r (openingIn o) e there (kl, refl) (jl, q) .1)
 
   openings-sound : (i : ℕ) → SoundEntry (segmentsIn t) (userOf i) (houseOf t .records) (getD (houseOf t .openings) i none)
-  unfolding openingSays
+  unfolding decodedOpening
   openings-sound i = each-opening t (SoundEntry (segmentsIn t) (userOf i) (houseOf t .records)) i
       (λ l. ⊎-elim (λ u. rw u (open-entry i l u)) (λ u. rw u tt) (split-bool (isOpen (openingAt t i)))) tt
 
@@ -81,8 +82,8 @@ module _ (cells : ℕ) (t : List ℕ) (ok : soundb cells t ≡ true) where
       record {
         least = leb-true 1 (segmentsIn t) (n .0);
         most = leb-true (segmentsIn t) mostSegments (n .1 .0);
-        places = length-tab places (λ p. recordSays (recordAt t p));
-        entries = length-tab entries (λ i. openingSays (openingAt t i));
+        places = length-tab places (λ p. decodedRecord (recordAt t p));
+        entries = length-tab entries (λ i. decodedOpening (openingAt t i));
         once = counted (houseOf t) apart;
         records = records-sound;
         openings = openings-sound;

@@ -7,7 +7,7 @@ use mathlib.Core.Option.{Option, none, some}
 use mathlib.Core.List.{List}
 use borrow.Author.Tests.{eqb-true}
 use lib.ListN.{getD, List·getD-map}
-use Rattle.combine.specs.Lists.{tab-at}
+use Rattle.combine.specs.laws.Lists.{tab-at}
 use Rattle.placing.specs.Sizes.{places, entries}
 use Rattle.placing.specs.Placing.{position, heldOf}
 use Rattle.rules.specs.Headings.{value}
@@ -17,23 +17,23 @@ use Rattle.tables.specs.declared.Opening.{Opening}
 use Rattle.tables.specs.Layout.{positionNumber, recordAt, openingAt}
 use Rattle.tables.specs.Fields.{isUsed, isOpen, valueOf, heldByRecord, heldByOpening}
 use Rattle.tables.specs.Handles.{handleIn}
-use Rattle.cells.specs.Says.{recordIn, openingIn, recordSays, openingSays, houseOf}
-use Rattle.cells.specs.Determined.{one-not-zero}
+use Rattle.cells.specs.Says.{recordIn, openingIn, decodedRecord, decodedOpening, houseOf}
+use Rattle.cells.specs.laws.Determined.{one-not-zero}
 use Rattle.proof_cells_agree.specs.Lists.{tab-each}
 
 -- ---- a record and an opening by themselves
 
 module _ (r : Record) where
-  pub says-used : isUsed r ≡ true → recordSays r ≡ some (recordIn r)
-  unfolding recordSays
+  pub says-used : isUsed r ≡ true → decodedRecord r ≡ some (recordIn r)
+  unfolding decodedRecord
   says-used u = rw u
 
   pub held-used : isUsed r ≡ true → heldByRecord r ≡ heldOf (r .species) (r .begin .0) (r .end .0)
   unfolding heldByRecord
   held-used u = rw (one-not-zero (r .used) (eqb-true (r .used) 1 u))
 
-  used-said : (q : SegmentRecord) → recordSays r ≡ some q → (isUsed r ≡ true) × (recordIn r ≡ q)
-  unfolding recordSays
+  used-said : (q : SegmentRecord) → decodedRecord r ≡ some q → (isUsed r ≡ true) × (recordIn r ≡ q)
+  unfolding decodedRecord
   used-said q e = go (isUsed r) refl
     where
       go : (b : Bool) → isUsed r ≡ b → (isUsed r ≡ true) × (recordIn r ≡ q)
@@ -41,16 +41,16 @@ module _ (r : Record) where
       go false u = absurd (let z : none ≡ some q = rw u at e in let w : _≡_ {A = ℕ} 0 1 = cc in let y : ⊥ = omega arith in y)
 
 module _ (o : Opening) where
-  pub says-open : isOpen o ≡ true → openingSays o ≡ some (openingIn o)
-  unfolding openingSays
+  pub says-open : isOpen o ≡ true → decodedOpening o ≡ some (openingIn o)
+  unfolding decodedOpening
   says-open u = rw u
 
   pub held-open : isOpen o ≡ true → heldByOpening o ≡ heldOf (o .species) (valueOf o 0) (valueOf o 1)
   unfolding heldByOpening
   held-open u = rw (one-not-zero (o .opened) (eqb-true (o .opened) 1 u))
 
-  open-said : (x : SegmentOpening) → openingSays o ≡ some x → (isOpen o ≡ true) × (openingIn o ≡ x)
-  unfolding openingSays
+  open-said : (x : SegmentOpening) → decodedOpening o ≡ some x → (isOpen o ≡ true) × (openingIn o ≡ x)
+  unfolding decodedOpening
   open-said x e = go (isOpen o) refl
     where
       go : (b : Bool) → isOpen o ≡ b → (isOpen o ≡ true) × (openingIn o ≡ x)
@@ -74,22 +74,22 @@ pub record OpeningThere (t : List ℕ) (i : ℕ) (x : SegmentOpening) : Type 0 w
   pub same : openingIn (openingAt t i) ≡ x
 
 module _ (t : List ℕ) where
-  pub record-at : (p : ℕ) → p < places → getD (houseOf t .records) p none ≡ recordSays (recordAt t p)
+  pub record-at : (p : ℕ) → p < places → getD (houseOf t .records) p none ≡ decodedRecord (recordAt t p)
   unfolding houseOf
-  record-at p l = tab-at places (λ q. recordSays (recordAt t q)) p none l
+  record-at p l = tab-at places (λ q. decodedRecord (recordAt t q)) p none l
 
-  pub opening-at : (i : ℕ) → i < entries → getD (houseOf t .openings) i none ≡ openingSays (openingAt t i)
+  pub opening-at : (i : ℕ) → i < entries → getD (houseOf t .openings) i none ≡ decodedOpening (openingAt t i)
   unfolding houseOf
-  opening-at i l = tab-at entries (λ j. openingSays (openingAt t j)) i none l
+  opening-at i l = tab-at entries (λ j. decodedOpening (openingAt t j)) i none l
 
   -- what holds of nothing and of what each place says, holds at every place
-  pub each-record : (P : Option SegmentRecord → Type 0) (p : ℕ) → (p < places → P (recordSays (recordAt t p))) → P none → P (getD (houseOf t .records) p none)
+  pub each-record : (P : Option SegmentRecord → Type 0) (p : ℕ) → (p < places → P (decodedRecord (recordAt t p))) → P none → P (getD (houseOf t .records) p none)
   unfolding houseOf
-  each-record P p h n = tab-each P places (λ q. recordSays (recordAt t q)) p none h n
+  each-record P p h n = tab-each P places (λ q. decodedRecord (recordAt t q)) p none h n
 
-  pub each-opening : (P : Option SegmentOpening → Type 0) (i : ℕ) → (i < entries → P (openingSays (openingAt t i))) → P none → P (getD (houseOf t .openings) i none)
+  pub each-opening : (P : Option SegmentOpening → Type 0) (i : ℕ) → (i < entries → P (decodedOpening (openingAt t i))) → P none → P (getD (houseOf t .openings) i none)
   unfolding houseOf
-  each-opening P i h n = tab-each P entries (λ j. openingSays (openingAt t j)) i none h n
+  each-opening P i h n = tab-each P entries (λ j. decodedOpening (openingAt t j)) i none h n
 
   pub record-there : (p : ℕ) (r : SegmentRecord) → getD (houseOf t .records) p none ≡ some r → RecordThere t p r
   record-there p r = each-record (λ y. y ≡ some r → RecordThere t p r) p

@@ -20,8 +20,8 @@ use Rattle.tables.specs.Sound.{soundb}
 use Rattle.image.specs.Image.{form1, imageb, tablesFrom}
 use Rattle.cells.specs.Says.{houseOf}
 use Rattle.cells.specs.Outcomes.{Lent, lent, soundLent, lengthsb, requestOut, freeOut, freshOut, loadOut}
-use Rattle.cells.specs.Operator.{fresh-says}
-use Rattle.cells.specs.Lowered.{stateOf}
+use Rattle.cells.specs.laws.Operator.{fresh-says}
+use Rattle.cells.specs.laws.Lowered.{stateOf}
 use Rattle.model.specs.Model.{Files, Model, model, free}
 use Rattle.model.specs.Step.{step, filesOr, requestOnModel}
 use Rattle.model.specs.View.{viewHouse, view, filesIn}

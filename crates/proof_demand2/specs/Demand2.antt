@@ -4,10 +4,10 @@ use mathlib.Core.Path.{_≡_, refl, ap, ap₂, _∙_}
 use mathlib.Core.Option.{none}
 use mathlib.Core.List.{List, [], _∷_}
 use lib.ListN.{length}
-use Rattle.combine.specs.Below.{not-both}
+use Rattle.combine.specs.laws.Below.{not-both}
 use Rattle.placing.specs.Sizes.{tablesLength}
 use Rattle.rules.specs.Calls.{fresh, save, load, count, on}
-use Rattle.tables.specs.Sound.{ranged-of}
+use Rattle.tables.specs.laws.Sound.{ranged-of}
 use Rattle.cells.specs.Outcomes.{Lent}
 use Rattle.model.specs.Model.{Model}
 use Rattle.model.specs.Step.{Report, step}

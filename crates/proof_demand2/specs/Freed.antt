@@ -12,7 +12,7 @@ use Rattle.placing.specs.Sizes.{greatestUser}
 use Rattle.rules.specs.Gates.{userGate}
 use Rattle.segments.specs.Free.{isFree, freeCount}
 use Rattle.tables.specs.Layout.{segmentsIn}
-use Rattle.tables.specs.Sound.{ranged-of}
+use Rattle.tables.specs.laws.Sound.{ranged-of}
 use Rattle.cells.specs.Says.{houseOf}
 use Rattle.cells.specs.Outcomes.{lent, soundLent, freeOut}
 use Rattle.free_count.specs.Lists.{free-unlisted, unlisted-free}

@@ -12,7 +12,7 @@ use Rattle.rules.specs.Calls.{save}
 use Rattle.rules.specs.Gates.{startGate, imageGate}
 use Rattle.rules.specs.House.{closedDown}
 use Rattle.segments.specs.Free.{SegmentHouse}
-use Rattle.tables.specs.Sound.{ranged-of}
+use Rattle.tables.specs.laws.Sound.{ranged-of}
 use Rattle.image.specs.Image.{form1, imageLength, imageOf, tablesFrom}
 use Rattle.cells.specs.Says.{houseOf}
 use Rattle.cells.specs.Outcomes.{Lent, Saved, saved, soundLent, saveOut}

@@ -10,11 +10,11 @@ use lib.ListN.{getD}
 use Rattle.combine.specs.Verdict.{Said, done, refuse_when_else_}
 use Rattle.combine.specs.Outcome.{settle}
 use Rattle.names.specs.Names.{symbolsOf, nameOf, scratchName, isScratch}
-use Rattle.placing.specs.Placing.{stretchOf, offsetOf, heldOf, claimOf, listPlace}
+use Rattle.placing.specs.Placing.{stretchOf, offsetOf, heldOf, claimOf, slotOf}
 use Rattle.placing.specs.Sizes.{widthOf, elementsOf}
 use Rattle.rules.specs.Calls.{Call}
-use Rattle.rules.specs.Access.{writing, nexting, renaming}
-use Rattle.rules.specs.Rules.{lookUp, openNew, openedAs, openOld, headed, closing}
+use Rattle.rules.specs.Access.{writeRule, nextRule, renameRule}
+use Rattle.rules.specs.Rules.{lookUp, openNew, openedAs, openOld, headed, closeRule}
 use Rattle.rules.specs.Gates.{userGate, entryGate, startGate, imageGate}
 use Rattle.cells.specs.Outcomes.{Lent}
 use Rattle.model.specs.Model.{Model, free}
@@ -33,7 +33,7 @@ answersOn (c ∷ cs) x = outcomeOn c x .answer ∷ answersOn cs (afterCall c x)
 
 -- what unfolds this unfolds every definition that the answers rest on
 unfoldable pub answersKnown : List Call → Model → List Said
-unfolding refuse_when_else_ settle symbolsOf nameOf scratchName isScratch stretchOf offsetOf heldOf claimOf listPlace widthOf elementsOf writing nexting renaming lookUp openNew openedAs openOld headed closing userGate entryGate startGate imageGate free requestOnModel
+unfolding refuse_when_else_ settle symbolsOf nameOf scratchName isScratch stretchOf offsetOf heldOf claimOf slotOf widthOf elementsOf writeRule nextRule renameRule lookUp openNew openedAs openOld headed closeRule userGate entryGate startGate imageGate free requestOnModel
 answersKnown [] m = []
 answersKnown (c ∷ cs) m = step blind c m .answer ∷ answersKnown cs (step blind c m .after)
 

@@ -7,7 +7,7 @@ use Rattle.combine.specs.Verdict.{Said, done, refused, isDone}
 use Rattle.rules.specs.Calls.{Call}
 use Rattle.cells.specs.Outcomes.{Lent}
 use Rattle.demands.specs.History.{outcomeOn, afterCall, final}
-use Rattle.demands.specs.Abandoning.{isOn, ends, crowded, quiet, Quiet, NoLoad, Story, opening, abandoning, Abandoned}
+use Rattle.demands.specs.Abandoning.{isOn, ends, crowded, quiet, Quiet, NoLoad, Story, openingCall, abandoning, Abandoned}
 
 -- ---- but that other calls between may be answered n: 9, "no room", or 14, "not now"
 
@@ -23,9 +23,9 @@ QuietBut n u e [] x = Unit {0}
 QuietBut n u e (c ∷ cs) x = T (quietBut n u e c (outcomeOn c x .answer)) × QuietBut n u e cs (afterCall c x)
 
 pub record AbandonedBut (n : ℕ) (h : Story) (x : Lent) : Type 0 where
-  pub opened : T (isDone (outcomeOn (opening h) (final (h .before) x) .answer))
-  pub quietly : QuietBut n (h .user) (h .entry) (h .between) (afterCall (opening h) (final (h .before) x))
-  pub noLoad : NoLoad (h .later) (final (h .before ++ opening h ∷ (h .between ++ abandoning h ∷ [])) x)
+  pub opened : T (isDone (outcomeOn (openingCall h) (final (h .before) x) .answer))
+  pub quietly : QuietBut n (h .user) (h .entry) (h .between) (afterCall (openingCall h) (final (h .before) x))
+  pub noLoad : NoLoad (h .later) (final (h .before ++ openingCall h ∷ (h .between ++ abandoning h ∷ [])) x)
 
 -- the premise left out: no call but the user's on the entry is answered n
 abbrev pub NoneAnswered : ℕ → ℕ → ℕ → List Call → Lent → Type 0
@@ -49,14 +49,14 @@ quietly-with n u e (c ∷ cs) x q t = (quiet-with n u e c (outcomeOn c x .answer
 
 -- with it, these are the premises of demand 3
 pub with-none-answered : (n : ℕ) (h : Story) (x : Lent) → AbandonedBut n h x
-    → NoneAnswered n (h .user) (h .entry) (h .between) (afterCall (opening h) (final (h .before) x)) → Abandoned h x
+    → NoneAnswered n (h .user) (h .entry) (h .between) (afterCall (openingCall h) (final (h .before) x)) → Abandoned h x
 with-none-answered n h x a t = record { opened = a .opened; quietly = quietly-with n (h .user) (h .entry) (h .between) _ (a .quietly) t; noLoad = a .noLoad }
 
 -- ---- but that an image may be loaded after the abandonment
 
 pub record AbandonedThenLoaded (h : Story) (x : Lent) : Type 0 where
-  pub opened : T (isDone (outcomeOn (opening h) (final (h .before) x) .answer))
-  pub quietly : Quiet (h .user) (h .entry) (h .between) (afterCall (opening h) (final (h .before) x))
+  pub opened : T (isDone (outcomeOn (openingCall h) (final (h .before) x) .answer))
+  pub quietly : Quiet (h .user) (h .entry) (h .between) (afterCall (openingCall h) (final (h .before) x))
 
-pub with-none-loaded : (h : Story) (x : Lent) → AbandonedThenLoaded h x → NoLoad (h .later) (final (h .before ++ opening h ∷ (h .between ++ abandoning h ∷ [])) x) → Abandoned h x
+pub with-none-loaded : (h : Story) (x : Lent) → AbandonedThenLoaded h x → NoLoad (h .later) (final (h .before ++ openingCall h ∷ (h .between ++ abandoning h ∷ [])) x) → Abandoned h x
 with-none-loaded h x a n = record { opened = a .opened; quietly = a .quietly; noLoad = n }

@@ -12,7 +12,7 @@ use Rattle.rules.specs.Calls.{Way, new, work, read, Request, opens, closes, aba
 use Rattle.rules.specs.Calls.{Act, rename, reset, newPointer, deletePointer, write, next, prev, askSpecies, askClaim, askPermit, askSymbol, askBegin, askEnd, askValue}
 use Rattle.rules.specs.Headings.{Heading, Handle, value}
 use Rattle.rules.specs.Effects.{used, Others}
-use Rattle.rules.specs.Access.{writing, acting}
+use Rattle.rules.specs.Access.{writeRule, acting}
 use Rattle.rules.specs.Rules.{busy, lookUp, openRecord, openOld, openWay, rule}
 use Rattle.proof_demand3.specs.Eased.{Eased}
 
@@ -45,9 +45,9 @@ no-less-room true true false h t = absurd (h tt)
 
 -- ---- a segment is taken
 
-writing-eased : (p n : ℕ) (takes : ℕ → Bool) (r q : Bool) (h : Handle) → (T r → T q) → T (calm (writing p n takes r h)) → writing p n takes q h ≡ writing p n takes r h
-unfolding writing
-writing-eased p n takes r q h e =
+write-eased : (p n : ℕ) (takes : ℕ → Bool) (r q : Bool) (h : Handle) → (T r → T q) → T (calm (writeRule p n takes r h)) → writeRule p n takes q h ≡ writeRule p n takes r h
+unfolding writeRule
+write-eased p n takes r q h e =
     keep 4 _ _ _ (keep 5 _ _ _ (keep 6 _ _ _ (keep 7 _ _ _ (keep 10 _ _ _ (keep 8 _ _ _ (ease 9 _ _ _ tt (no-less-room (not (eqb p 0) && takes (value h p)) r q e)))))))
 
 acting-eased : (a : Act) (takes : ℕ → Bool) (r q : Bool) (h : Handle) → (T r → T q) → T (calm (acting a takes r h)) → acting a takes q h ≡ acting a takes r h
@@ -55,7 +55,7 @@ acting-eased (rename n) takes r q h e c = refl
 acting-eased reset takes r q h e c = refl
 acting-eased (newPointer p) takes r q h e c = refl
 acting-eased (deletePointer p) takes r q h e c = refl
-acting-eased (write p n) takes r q h e c = writing-eased p n takes r q h e c
+acting-eased (write p n) takes r q h e c = write-eased p n takes r q h e c
 acting-eased (next p) takes r q h e c = refl
 acting-eased (prev p) takes r q h e c = refl
 acting-eased askSpecies takes r q h e c = refl

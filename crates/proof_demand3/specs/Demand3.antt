@@ -6,7 +6,7 @@ use mathlib.Core.Option.{none}
 use mathlib.Core.List.{List, [], _∷_, _++_}
 use lib.Dec.{T}
 use lib.ListN.{length, getD}
-use Rattle.combine.specs.Below.{split-bool}
+use Rattle.combine.specs.laws.Below.{split-bool}
 use Rattle.combine.specs.Verdict.{Said, isDone}
 use Rattle.combine.specs.Outcome.{Outcome}
 use Rattle.placing.specs.Sizes.{entryOf}
@@ -22,8 +22,8 @@ use Rattle.proof_calls_sound.specs.Keeps.{keeps-sound}
 use Rattle.proof_model.specs.Counted.{free-seen}
 use Rattle.demands.specs.History.{outcomeOn, afterCall, toldOf, viewOn, final}
 use Rattle.demands.specs.Demands.{Sound}
-use Rattle.demands.specs.Unsound.{refuses-unsound}
-use Rattle.demands.specs.Abandoning.{Fate, allStay, strike, opening, abandoning, whole, rest, NoLoad, Demand3}
+use Rattle.demands.specs.laws.Unsound.{refuses-unsound}
+use Rattle.demands.specs.Abandoning.{Fate, allStay, strike, openingCall, abandoning, whole, rest, NoLoad, Demand3}
 use Rattle.proof_demand3.specs.Eased.{emptied}
 use Rattle.proof_demand3.specs.Own.{Begun, begun, request-own, emptied-closed}
 use Rattle.proof_demand3.specs.Beside.{answer-known, after-known, Beside}
@@ -80,10 +80,10 @@ demand3 h x a =
     let x₀ = final (h .before) x in
     let begin = found u e (h .way) x₀ (a .opened) in
     let sound = found-sound u e (h .way) x₀ (a .opened) in
-    let lived : List Call = opening h ∷ (h .between ++ abandoning h ∷ []) in
+    let lived : List Call = openingCall h ∷ (h .between ++ abandoning h ∷ []) in
     let noLoad : NoLoad (h .later) (final lived x₀) = subst (NoLoad (h .later)) (final-joined (h .before) lived x) (a .noLoad) in
-    let b = between-alike u e (begin .user) (begin .entry) (h .later) (h .between) (afterCall (opening h) x₀) x₀ (opened-beside u e (h .way) x₀ (a .opened)) (a .quietly) noLoad in
-    let r = before-alike (h .before) (opening h ∷ (h .between ++ abandoning h ∷ h .later)) (strike u e (h .between) ++ h .later) x _ _ (record { told = b .told; seen = b .seen }) in
+    let b = between-alike u e (begin .user) (begin .entry) (h .later) (h .between) (afterCall (openingCall h) x₀) x₀ (opened-beside u e (h .way) x₀ (a .opened)) (a .quietly) noLoad in
+    let r = before-alike (h .before) (openingCall h ∷ (h .between ++ abandoning h ∷ h .later)) (strike u e (h .between) ++ h .later) x _ _ (record { told = b .told; seen = b .seen }) in
     let soundAfter : (cs : List Call) → Sound (final (h .before ++ cs) x) = λ cs. subst Sound (sym (final-joined (h .before) cs x)) (sound-final cs x₀ sound) in
     record {
       sameAnswers = r .told;

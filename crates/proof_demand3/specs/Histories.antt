@@ -4,7 +4,7 @@ use mathlib.Core.Path.{_≡_, refl, ap₂, subst}
 use mathlib.Core.Bool.{Bool, true, false, not, _&&_, cond}
 use mathlib.Core.List.{List, [], _∷_, _++_, map}
 use lib.Dec.{T, ltb, eqb, eqb→eq, nltb→le}
-use Rattle.combine.specs.Below.{not-both}
+use Rattle.combine.specs.laws.Below.{not-both}
 use Rattle.combine.specs.Verdict.{isDone}
 use Rattle.placing.specs.Sizes.{entryOf}
 use Rattle.rules.specs.Calls.{Request, abandons, Call, fresh, save, load, count, on}
@@ -14,7 +14,7 @@ use Rattle.proof_calls_sound.specs.Keeps.{keeps-sound}
 use Rattle.proof_requests_sound.specs.Tests.{and-first, and-second}
 use Rattle.demands.specs.History.{outcomeOn, afterCall, toldOf, viewOn, toldAll, final}
 use Rattle.demands.specs.Demands.{Sound}
-use Rattle.demands.specs.Abandoning.{isOn, ending, quiet, Quiet, NoLoad, Fate, stays, counts, struck, isCount, leftFate, betweenFate, strike, heard, allStay}
+use Rattle.demands.specs.Abandoning.{isOn, ending, quiet, Quiet, NoLoad, Fate, remains, counts, struck, isCount, leftFate, betweenFate, strike, heard, allStay}
 use Rattle.proof_demand3.specs.Steps.{goes-on}
 use Rattle.proof_demand3.specs.Beside.{Beside, another-beside, another-told, own-beside, abandoned-seen, later-told, later-seen}
 
@@ -57,7 +57,7 @@ told-left : (c : Call) (a b : Report) (f g : List Fate) (k l : List Report) → 
     → heard (leftFate c ∷ f) (a ∷ k) ≡ heard (leftFate c ∷ g) (b ∷ l)
 told-left c a b f g k l h e = go (isCount c) h
   where
-    go : (n : Bool) → (n ≡ false → a ≡ b) → heard (cond n counts stays ∷ f) (a ∷ k) ≡ heard (cond n counts stays ∷ g) (b ∷ l)
+    go : (n : Bool) → (n ≡ false → a ≡ b) → heard (cond n counts remains ∷ f) (a ∷ k) ≡ heard (cond n counts remains ∷ g) (b ∷ l)
     go true h = e
     go false h = ap₂ {C = List Report} (λ r l. r ∷ l) (h refl) e
 

@@ -6,7 +6,7 @@ use mathlib.Core.Bool.{true}
 use mathlib.Core.List.{List, [], _∷_}
 use lib.Dec.{T}
 use lib.ListN.{getD, drop}
-use Rattle.combine.specs.Below.{not-both}
+use Rattle.combine.specs.laws.Below.{not-both}
 use Rattle.combine.specs.Verdict.{Said, done, refused, isDone}
 use Rattle.rules.specs.Calls.{new, work, read, rename, opens, closes, uses, on}
 use Rattle.demands.specs.Abandoning.{Story, whole, rest, NoTrace}

@@ -5,7 +5,7 @@ use mathlib.Core.Path.{_≡_, refl, sym, ap, _∙_, subst}
 use mathlib.Core.List.{List, [], _∷_}
 use lib.Dec.{T}
 use lib.ListN.{getD, drop}
-use Rattle.combine.specs.Below.{not-both}
+use Rattle.combine.specs.laws.Below.{not-both}
 use Rattle.combine.specs.Verdict.{Said, done, refused, isDone}
 use Rattle.rules.specs.Calls.{new, write, opens, uses, on}
 use Rattle.demands.specs.Abandoning.{Story, whole, rest, NoTrace}

@@ -15,16 +15,16 @@ use Rattle.store.specs.Store.{elementAt}
 use Rattle.rules.specs.Calls.{new, work, read, rename, write, next, opens, closes, uses, Call, save, load, on}
 use Rattle.rules.specs.House.{freshHouse}
 use Rattle.segments.specs.State.{State, state, requestOnSegments}
-use Rattle.tables.specs.Sound.{ranged-of}
+use Rattle.tables.specs.laws.Sound.{ranged-of}
 use Rattle.image.specs.Image.{form1, imageb}
 use Rattle.cells.specs.Outcomes.{Lent}
-use Rattle.cells.specs.Lowered.{stateOf}
+use Rattle.cells.specs.laws.Lowered.{stateOf}
 use Rattle.proof_images.specs.Done.{load-done}
 use Rattle.proof_calls_sound.specs.Agrees.{request-agrees}
 use Rattle.proof_calls_sound.specs.Keeps.{keeps-sound}
 use Rattle.demands.specs.History.{outcomeOn, afterCall, final}
 use Rattle.demands.specs.Demands.{Sound}
-use Rattle.demands.specs.Abandoning.{quiet, Story, opening, abandoning, NoTrace}
+use Rattle.demands.specs.Abandoning.{quiet, Story, openingCall, abandoning, NoTrace}
 use Rattle.proof_demand3.specs.Demand3.{sound-final}
 use Rattle.proof_demand3.specs.Started.{nothingThere, startedOver, started-sound, started-state}
 use Rattle.proof_demand3.specs.Answers.{answersOn, answersKnown, answers-started, Passed, answered-otherwise}
@@ -50,7 +50,7 @@ takesTheFreedSegment = record {
 
 -- the calls till the load, with the opening
 abbrev lived : List Call
-lived = takesTheFreedSegment .before ++ opening takesTheFreedSegment ∷ (takesTheFreedSegment .between ++ abandoning takesTheFreedSegment ∷ [])
+lived = takesTheFreedSegment .before ++ openingCall takesTheFreedSegment ∷ (takesTheFreedSegment .between ++ abandoning takesTheFreedSegment ∷ [])
 
 -- ---- the other premises
 

@@ -8,19 +8,19 @@ use Rattle.combine.specs.Verdict.{refuse_when_else_}
 use Rattle.combine.specs.Outcome.{settle}
 use Rattle.names.specs.Names.{symbolsOf, nameOf, scratchName, isScratch}
 use Rattle.packing.specs.Packing.{field, putField, takeBits, putBits}
-use Rattle.placing.specs.Placing.{stretchOf, offsetOf, cellOf, bitOf, heldOf, listPlace}
+use Rattle.placing.specs.Placing.{stretchOf, offsetOf, cellOf, bitOf, heldOf, slotOf}
 use Rattle.placing.specs.Sizes.{widthOf, elementsOf}
 use Rattle.store.specs.Store.{elementAt, putElement, zeroed, copied, segmentOf}
 use Rattle.rules.specs.Calls.{Call, fresh, save, load, count, on}
-use Rattle.rules.specs.Access.{writing, nexting, renaming}
-use Rattle.rules.specs.Rules.{lookUp, openNew, openedAs, openOld, headed, closing}
+use Rattle.rules.specs.Access.{writeRule, nextRule, renameRule}
+use Rattle.rules.specs.Rules.{lookUp, openNew, openedAs, openOld, headed, closeRule}
 use Rattle.rules.specs.Gates.{userGate, entryGate}
 use Rattle.segments.specs.Free.{isFree, lowestFree}
 use Rattle.segments.specs.Deeds.{target, prepared}
 use Rattle.segments.specs.State.{State, requestOnSegments}
 use Rattle.cells.specs.Outcomes.{Lent}
-use Rattle.cells.specs.Operator.{save-keeps-cells}
-use Rattle.cells.specs.Lowered.{stateOf}
+use Rattle.cells.specs.laws.Operator.{save-keeps-cells}
+use Rattle.cells.specs.laws.Lowered.{stateOf}
 use Rattle.proof_calls_sound.specs.Starts.{count-keeps-cells}
 use Rattle.proof_calls_sound.specs.Agrees.{request-agrees}
 use Rattle.proof_calls_sound.specs.Keeps.{keeps-sound}
@@ -42,7 +42,7 @@ afterOne (on u e r) m = requestOnSegments r u e m .after
 
 -- what unfolds this unfolds every definition that it rests on
 unfoldable pub stateAfter : List Call → State → State
-unfolding firstBelow refuse_when_else_ settle symbolsOf nameOf scratchName isScratch field putField takeBits putBits stretchOf offsetOf cellOf bitOf heldOf listPlace widthOf elementsOf elementAt putElement zeroed copied segmentOf writing nexting renaming lookUp openNew openedAs openOld headed closing userGate entryGate isFree lowestFree target prepared
+unfolding firstBelow refuse_when_else_ settle symbolsOf nameOf scratchName isScratch field putField takeBits putBits stretchOf offsetOf cellOf bitOf heldOf slotOf widthOf elementsOf elementAt putElement zeroed copied segmentOf writeRule nextRule renameRule lookUp openNew openedAs openOld headed closeRule userGate entryGate isFree lowestFree target prepared
 stateAfter [] m = m
 stateAfter (c ∷ cs) m = stateAfter cs (afterOne c m)
 

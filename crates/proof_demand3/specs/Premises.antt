@@ -16,7 +16,7 @@ use Rattle.proof_calls_sound.specs.Keeps.{keeps-sound}
 use Rattle.proof_requests_sound.specs.Tests.{and-first, and-second}
 use Rattle.demands.specs.History.{outcomeOn, afterCall, viewOn, final}
 use Rattle.demands.specs.Demands.{Sound}
-use Rattle.demands.specs.Abandoning.{quiet, Quiet, isLoad, NoLoad, Story, opening, Abandoned}
+use Rattle.demands.specs.Abandoning.{quiet, Quiet, isLoad, NoLoad, Story, openingCall, Abandoned}
 use Rattle.proof_demand3.specs.Steps.{Look}
 use Rattle.proof_demand3.specs.Beside.{answer-known, after-known}
 
@@ -84,13 +84,13 @@ never-load (c ∷ cs) x n = (go (isLoad c) _ (and-first (not (isLoad c)) (noLoad
 
 pub abandoned-known : (h : Story) (x : Lent) → Sound x → T (noLoadb (h .before)) → T (noLoadb (h .between)) → T (noLoadb (h .later))
     → let m = knownAfter (h .before) (viewOn x) in
-    T (isDone (step blind (opening h) m .answer)) → T (quietb (h .user) (h .entry) (h .between) (step blind (opening h) m .after)) → Abandoned h x
+    T (isDone (step blind (openingCall h) m .answer)) → T (quietb (h .user) (h .entry) (h .between) (step blind (openingCall h) m .after)) → Abandoned h x
 abandoned-known h x s nb nc nd o q =
     let k = final-known (h .before) x s nb in
     let y = final (h .before) x in
     record {
-      opened = subst (λ (a : Said). T (isDone a)) (sym (answer-blind (opening h) y (k .1) tt ∙ ap (λ (m : Model). step blind (opening h) m .answer) (k .0))) o;
-      quietly = quiet-known (h .user) (h .entry) (h .between) (afterCall (opening h) y) (keeps-sound (opening h) y (k .1)) nc
-          (subst (λ (m : Model). T (quietb (h .user) (h .entry) (h .between) m)) (sym (after-blind (opening h) y (k .1) tt ∙ ap (λ (m : Model). step blind (opening h) m .after) (k .0))) q);
+      opened = subst (λ (a : Said). T (isDone a)) (sym (answer-blind (openingCall h) y (k .1) tt ∙ ap (λ (m : Model). step blind (openingCall h) m .answer) (k .0))) o;
+      quietly = quiet-known (h .user) (h .entry) (h .between) (afterCall (openingCall h) y) (keeps-sound (openingCall h) y (k .1)) nc
+          (subst (λ (m : Model). T (quietb (h .user) (h .entry) (h .between) m)) (sym (after-blind (openingCall h) y (k .1) tt ∙ ap (λ (m : Model). step blind (openingCall h) m .after) (k .0))) q);
       noLoad = never-load (h .later) _ nd;
     }

@@ -7,8 +7,9 @@ use mathlib.Core.Bool.{true, false}
 use mathlib.Core.Option.{none, some}
 use mathlib.Core.List.{List, [], _∷_, _++_}
 use lib.ListN.{length, getD, replicate, length-replicate}
-use Rattle.combine.specs.Lists.{tab, part, joined, tab-cong}
-use Rattle.combine.specs.Parts.{length-part}
+use Rattle.combine.specs.Lists.{tab, part, joined}
+use Rattle.combine.specs.laws.Lists.{tab-cong}
+use Rattle.combine.specs.laws.Parts.{length-part}
 use Rattle.combine.specs.Outcome.{Outcome}
 use Rattle.names.specs.Names.{nameOf}
 use Rattle.packing.specs.Packing.{cellsOf, sum, packed}
@@ -19,8 +20,9 @@ use Rattle.rules.specs.House.{house, closedDown, freshHouse}
 use Rattle.segments.specs.Free.{SegmentRecord, SegmentHouse}
 use Rattle.segments.specs.State.{State, state}
 use Rattle.tables.specs.Layout.{recordBase, segmentsIn, recordCells, recordAt, unusedRecord}
-use Rattle.tables.specs.Rows.{record-row}
-use Rattle.tables.specs.Sound.{soundb, ranged-of}
+use Rattle.tables.specs.laws.Rows.{record-row}
+use Rattle.tables.specs.Sound.{soundb}
+use Rattle.tables.specs.laws.Sound.{ranged-of}
 use Rattle.image.specs.Image.{form1, headWidths, recordWidths, headImage, recordImage, imageOf, imageb, tablesFrom}
 use Rattle.cells.specs.Says.{inPlaces, houseOf, asRecord}
 use Rattle.cells.specs.Outcomes.{Lent, Saved, callImage}

@@ -16,8 +16,8 @@ use Rattle.segments.specs.State.{state}
 use Rattle.tables.specs.Layout.{freshTables}
 use Rattle.tables.specs.Sound.{soundb}
 use Rattle.cells.specs.Outcomes.{Lent, lent, freshOut}
-use Rattle.cells.specs.Operator.{fresh-says}
-use Rattle.cells.specs.Lowered.{stateOf}
+use Rattle.cells.specs.laws.Operator.{fresh-says}
+use Rattle.cells.specs.laws.Lowered.{stateOf}
 use Rattle.model.specs.Model.{Model, model}
 use Rattle.model.specs.View.{viewHouse, view}
 use Rattle.proof_calls_sound.specs.Fresh.{fresh-tables-sound}

@@ -13,7 +13,7 @@ use Rattle.cells.specs.Outcomes.{lent}
 use Rattle.model.specs.Model.{Model}
 use Rattle.model.specs.Step.{step}
 use Rattle.demands.specs.History.{afterCall, viewOn}
-use Rattle.demands.specs.Abandoning.{Story, opening, Abandoned, NoTrace}
+use Rattle.demands.specs.Abandoning.{Story, openingCall, Abandoned, NoTrace}
 use Rattle.proof_demand3.specs.Premises.{blind, knownAfter, quietb, abandoned-known}
 use Rattle.proof_demand3.specs.Demand3.{demand3}
 use Rattle.proof_demand3.specs.Started.{nothingThere, fresh-leaves-sound, fresh-leaves-nothing}
@@ -44,11 +44,11 @@ storyAfter before = record {
 
 -- ---- on the state as its users know it, after a fresh start over 1,024 cells
 
-well : T (isDone (step blind (opening (storyAfter filled)) (knownAfter filled (nothingThere 1024)) .answer))
+well : T (isDone (step blind (openingCall (storyAfter filled)) (knownAfter filled (nothingThere 1024)) .answer))
 unfolding answersKnown
 well = tt
 
-quietly : T (quietb 2 0 (storyAfter filled .between) (step blind (opening (storyAfter filled)) (knownAfter filled (nothingThere 1024)) .after))
+quietly : T (quietb 2 0 (storyAfter filled .between) (step blind (openingCall (storyAfter filled)) (knownAfter filled (nothingThere 1024)) .after))
 unfolding answersKnown
 quietly = tt
 
@@ -62,8 +62,8 @@ module _ (s t : List ℕ) (cells : length s ≡ 1024) (long : length t ≡ table
   pub premises : Abandoned (storyAfter (fresh ∷ filled)) (lent s t)
   premises =
       let a = abandoned-known (storyAfter filled) (afterCall fresh (lent s t)) (fresh-leaves-sound s t 1024 cells refl long) tt tt tt
-      (subst (λ (m : Model). T (isDone (step blind (opening (storyAfter filled)) (knownAfter filled m) .answer))) (sym starts) well)
-      (subst (λ (m : Model). T (quietb 2 0 (storyAfter filled .between) (step blind (opening (storyAfter filled)) (knownAfter filled m) .after))) (sym starts) quietly) in
+      (subst (λ (m : Model). T (isDone (step blind (openingCall (storyAfter filled)) (knownAfter filled m) .answer))) (sym starts) well)
+      (subst (λ (m : Model). T (quietb 2 0 (storyAfter filled .between) (step blind (openingCall (storyAfter filled)) (knownAfter filled m) .after))) (sym starts) quietly) in
       record { opened = a .opened; quietly = a .quietly; noLoad = a .noLoad }
 
   pub no-trace : NoTrace (storyAfter (fresh ∷ filled)) (lent s t)

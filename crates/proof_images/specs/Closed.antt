@@ -6,12 +6,13 @@ use mathlib.Core.Option.{none}
 use native.Mathlib.Omega.{arith}
 use lib.ListN.{length, getD, take, replicate, length-append, length-replicate, getD-replicate, List·getD-append}
 use lib.Seq.{length-take-le, getD-take, getD-append-add, ext-getD}
-use Rattle.combine.specs.Lists.{part, tab, tab-cong}
-use Rattle.combine.specs.Parts.{length-part, getD-part}
+use Rattle.combine.specs.Lists.{part, tab}
+use Rattle.combine.specs.laws.Lists.{tab-cong}
+use Rattle.combine.specs.laws.Parts.{length-part, getD-part}
 use Rattle.placing.specs.Sizes.{tablesLength}
 use Rattle.rules.specs.House.{house, closedDown}
 use Rattle.tables.specs.Layout.{recordBase, segmentsIn, recordOf, recordAt, openingOf, openingAt, closedOpening}
-use Rattle.cells.specs.Says.{recordSays, openingSays, houseOf}
+use Rattle.cells.specs.Says.{decodedRecord, decodedOpening, houseOf}
 
 unfoldable pub closed : List ℕ → List ℕ
 closed t = take 3201 t ++ replicate 1792 0
@@ -63,8 +64,8 @@ module _ (t : List ℕ) (long : length t ≡ tablesLength) where
   opening-cleared i li = ap openingOf (part-cleared (56 * i) 56 (omega arith))
 
   pub closed-says : houseOf (closed t) ≡ closedDown (houseOf t)
-  unfolding houseOf tab openingSays closedOpening
+  unfolding houseOf tab decodedOpening closedOpening
   closed-says =
       λ i. house (segments-kept i)
-      (tab-cong 64 (λ p. recordSays (recordAt t p)) (λ p. recordSays (recordAt (closed t) p)) (λ p lp. ap recordSays (record-kept p lp)) i)
-      (tab-cong 32 (λ _. none) (λ k. openingSays (openingAt (closed t) k)) (λ k lk. ap openingSays (opening-cleared k lk)) i)
+      (tab-cong 64 (λ p. decodedRecord (recordAt t p)) (λ p. decodedRecord (recordAt (closed t) p)) (λ p lp. ap decodedRecord (record-kept p lp)) i)
+      (tab-cong 32 (λ _. none) (λ k. decodedOpening (openingAt (closed t) k)) (λ k lk. ap decodedOpening (opening-cleared k lk)) i)

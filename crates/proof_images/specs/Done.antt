@@ -6,13 +6,14 @@ use mathlib.Core.List.{List}
 use native.Mathlib.Omega.{arith}
 use lib.ListN.{length}
 use borrow.Author.Tests.{eq-eqb, eqb-true, le-leb, leb-true}
-use Rattle.combine.specs.Rows.{each-of, all-good}
+use Rattle.combine.specs.laws.Rows.{each-of, all-good}
 use Rattle.combine.specs.Verdict.{done, refuse_when_else_}
 use Rattle.combine.specs.Outcome.{outcomeOf, settle}
 use Rattle.placing.specs.Sizes.{segmentCells, tablesLength}
 use Rattle.rules.specs.Gates.{startGate, imageGate}
 use Rattle.tables.specs.Layout.{segmentsIn}
-use Rattle.tables.specs.Sound.{numberb, soundb, ranged-of}
+use Rattle.tables.specs.Sound.{numberb, soundb}
+use Rattle.tables.specs.laws.Sound.{ranged-of}
 use Rattle.image.specs.Image.{form1, imageLength, imageOf, headField, tablesFrom, imageb}
 use Rattle.cells.specs.Outcomes.{lent, loadOut, saved, saveOut}
 use Rattle.proof_images.specs.Closed.{closed}

@@ -5,8 +5,9 @@ use mathlib.Core.List.{List, [], _∷_, _++_, append-nil}
 use native.Mathlib.Omega.{arith}
 use lib.ListN.{length, getD, take, replicate, length-append}
 use lib.Seq.{take-at, take-add, take-all}
-use Rattle.combine.specs.Lists.{part, joined, tab, tab-cong}
-use Rattle.combine.specs.Parts.{length-part}
+use Rattle.combine.specs.Lists.{part, joined, tab}
+use Rattle.combine.specs.laws.Lists.{tab-cong}
+use Rattle.combine.specs.laws.Parts.{length-part}
 use Rattle.packing.specs.Packing.{packed, unpacked, rowOf, cellsOf}
 use Rattle.placing.specs.Sizes.{places, tablesLength}
 use Rattle.tables.specs.Layout.{recordBase, segmentsIn}

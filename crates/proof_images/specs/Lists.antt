@@ -6,13 +6,14 @@ use mathlib.Core.List.{List}
 use native.Mathlib.Omega.{arith}
 use lib.ListN.{length}
 use borrow.Author.Tests.{lt-ltb, le-ltb}
-use Rattle.combine.specs.Numbers.{le-or-lt}
+use Rattle.combine.specs.laws.Numbers.{le-or-lt}
 use Rattle.placing.specs.Placing.{stretchOf}
 use Rattle.placing.specs.Sizes.{tablesLength}
 use Rattle.tables.specs.declared.Record.{Record}
 use Rattle.tables.specs.Layout.{recordAt, closedOpening}
 use Rattle.tables.specs.Fields.{heldByRecord, heldByOpening, numberAt}
-use Rattle.tables.specs.Lists.{heldIn, listed, stretchIn, familyOf, Distinct}
+use Rattle.tables.specs.Lists.{heldIn, listed, stretchIn, familyOf}
+use Rattle.tables.specs.laws.Lists.{Distinct}
 use Rattle.proof_images.specs.Closed.{closed, record-kept, opening-cleared}
 
 module _ (t : List ℕ) (long : length t ≡ tablesLength) where

@@ -8,7 +8,8 @@ use Rattle.combine.specs.Verdict.{done}
 use Rattle.combine.specs.Outcome.{Outcome, outcomeOf}
 use Rattle.placing.specs.Sizes.{tablesLength}
 use Rattle.rules.specs.House.{closedDown}
-use Rattle.tables.specs.Sound.{soundb, ranged-of}
+use Rattle.tables.specs.Sound.{soundb}
+use Rattle.tables.specs.laws.Sound.{ranged-of}
 use Rattle.image.specs.Image.{form1, imageLength, imageOf, tablesFrom, imageb}
 use Rattle.cells.specs.Outcomes.{Lent, lent, loadOut, Saved, saved, saveOut}
 use Rattle.cells.specs.Says.{houseOf}

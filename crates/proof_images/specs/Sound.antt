@@ -7,23 +7,25 @@ use native.Mathlib.Omega.{arith}
 use lib.Dec.{eqb}
 use lib.ListN.{length}
 use borrow.Author.Tests.{eq-eqb, eqb-true}
-use Rattle.combine.specs.Below.{allBelow, all-make, all-cong}
-use Rattle.combine.specs.Rows.{allOf, each-of, all-good}
+use Rattle.combine.specs.Below.{allBelow}
+use Rattle.combine.specs.laws.Below.{all-make, all-cong}
+use Rattle.combine.specs.Rows.{allOf}
+use Rattle.combine.specs.laws.Rows.{each-of, all-good}
 use Rattle.placing.specs.Sizes.{places, entries, tablesLength}
 use Rattle.tables.specs.declared.Opening.{Opening}
 use Rattle.tables.specs.Layout.{segmentsIn, recordAt, closedOpening}
 use Rattle.tables.specs.Fields.{isUsed, valueOf}
-use Rattle.tables.specs.Records.{recordb, clash, aloneb, recordsb}
+use Rattle.tables.specs.Records.{recordb, clash, noClashb, recordsb}
 use Rattle.tables.specs.Openings.{closedb, openb, openingb, openingsb}
-use Rattle.tables.specs.Lists.{distinct-of}
+use Rattle.tables.specs.laws.Lists.{distinct-of}
 use Rattle.tables.specs.Sound.{numberb, soundb}
 use Rattle.sound_lists.specs.DistinctBy.{distinct-by}
 use Rattle.proof_images.specs.Closed.{closed, length-closed, segments-kept, record-kept, opening-cleared}
 use Rattle.proof_images.specs.Lists.{closed-distinct}
 
 module _ (t : List ℕ) (long : length t ≡ tablesLength) where
-  alone-kept : (p : ℕ) → p < places → aloneb (closed t) p ≡ aloneb t p
-  unfolding aloneb
+  alone-kept : (p : ℕ) → p < places → noClashb (closed t) p ≡ noClashb t p
+  unfolding noClashb
   alone-kept p lp =
       let r = record-kept t long p lp in
       λ i. cond (isUsed (r i))
@@ -35,7 +37,7 @@ module _ (t : List ℕ) (long : length t ≡ tablesLength) where
   records-kept n =
       λ i. allOf
       (all-cong (λ p. recordb n (recordAt (closed t) p)) (λ p. recordb n (recordAt t p)) places (λ p lp. ap (recordb n) (record-kept t long p lp)) i
-      ∷ all-cong (aloneb (closed t)) (aloneb t) places alone-kept i
+      ∷ all-cong (noClashb (closed t)) (noClashb t) places alone-kept i
       ∷ [])
 
   nothing-open : openingsb (closed t) ≡ true

@@ -9,12 +9,13 @@ use mathlib.Core.List.{List, [], _∷_, map}
 use lib.Dec.{T, eqb, ltb}
 use borrow.Author.Tests.{ltb-true, lt-ltb}
 use lib.ListN.{length, getD}
-use Rattle.combine.specs.Below.{countBelow, bool-ext}
+use Rattle.combine.specs.Below.{countBelow}
+use Rattle.combine.specs.laws.Below.{bool-ext}
 use Rattle.combine.specs.First.{firstBelow}
 use Rattle.combine.specs.Lists.{any, total, isIn}
 use Rattle.placing.specs.Sizes.{userOf}
 use Rattle.segments.specs.Free.{SegmentRecord, SegmentOpening, SegmentHouse, recordSegments, openingSegments, placeSegments, isFree, freeCount, lowestFree, hasRoom}
-use Rattle.segments.specs.Sound.{times, timesInRecord, timesBut, timesInOpening, mentions, SoundPlace, SoundEntry, SoundHouse}
+use Rattle.segments.specs.laws.Sound.{times, timesInRecord, timesBut, timesInOpening, mentions, SoundPlace, SoundEntry, SoundHouse}
 use Rattle.model.specs.Model.{heldBy, ownFlag, ownedBy, free, modelLevel}
 use Rattle.model.specs.View.{viewPlace, viewEntry, viewHouse}
 use Rattle.proof_requests_sound.specs.Tests.{by-test, true-of, false-of, or-split}

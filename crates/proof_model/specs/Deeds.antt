@@ -9,13 +9,13 @@ use lib.ListN.{length, take, drop, length-map}
 use Rattle.combine.specs.Lists.{isIn}
 use Rattle.placing.specs.Placing.{heldOf}
 use Rattle.store.specs.Store.{elementsIn}
-use Rattle.store.specs.Files.{elements-at}
+use Rattle.store.specs.laws.Files.{elements-at}
 use Rattle.rules.specs.Headings.{Handle, value, moved, holds}
-use Rattle.rules.specs.Effects.{firstLeaves, lastLeaves, Told, plain, element}
+use Rattle.rules.specs.Effects.{firstLeaves, lastLeaves, Delivered, plain, element}
 use Rattle.segments.specs.Free.{SegmentOpening, SegmentHouse, placeSegments}
-use Rattle.segments.specs.Deeds.{segmentsAfter, saidBySegments}
-use Rattle.segments.specs.Sound.{SoundOpen}
-use Rattle.model.specs.Model.{Body, body, bodyAfter, saidByModel}
+use Rattle.segments.specs.Deeds.{segmentsAfter, deliveredBySegments}
+use Rattle.segments.specs.laws.Sound.{SoundOpen}
+use Rattle.model.specs.Model.{Body, body, bodyAfter, deliveredByModel}
 use Rattle.model.specs.View.{viewOpening}
 use Rattle.proof_requests_sound.specs.Uses.{Inside}
 use Rattle.proof_requests_sound.specs.Tied.{value-here, value-else}
@@ -47,7 +47,7 @@ module _ (s : List ℕ) (h : SegmentHouse) (u : ℕ) (x : SegmentOpening) (f : S
   rsegs = placeSegments (h .records) (x .handle .place)
 
   -- the element that is told
-  pub told-seen : (t : Told) → Inside (x .handle) t → saidBySegments s x t ≡ saidByModel (viewOpening s (h .records) x) t
+  pub told-seen : (t : Delivered) → Inside (x .handle) t → deliveredBySegments s x t ≡ deliveredByModel (viewOpening s (h .records) x) t
   told-seen (plain n) k = refl
   told-seen (element v) k = sym (elements-at s (x .content) species begin end v (k .0) (k .1))
 

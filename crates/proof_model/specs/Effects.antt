@@ -13,14 +13,14 @@ use Rattle.names.specs.Names.{nameOf}
 use Rattle.placing.specs.Sizes.{segmentCells, userOf}
 use Rattle.store.specs.Store.{elementsIn}
 use Rattle.rules.specs.Headings.{Heading, Handle, Open, filing, opening, headOf, value, moved, named, holds}
-use Rattle.rules.specs.Effects.{Deed, stays, firstLeaves, lastLeaves, stores, Told, plain, Use, does, Effect, used}
+use Rattle.rules.specs.Effects.{Deed, stays, firstLeaves, lastLeaves, stores, Delivered, plain, Use, does, Effect, used}
 use Rattle.rules.specs.Rules.{openedAs, headed, newHandle}
 use Rattle.rules.specs.House.{house, othersOf, changed}
 use Rattle.rules.specs.Levels.{perform, orBlank}
 use Rattle.segments.specs.Free.{SegmentRecord, SegmentOpening, SegmentHouse, recordSegments, placeSegments, hasRoom}
 use Rattle.segments.specs.Deeds.{takesAt, segmentsAfter, storeAfter, segmentLevel}
 use Rattle.segments.specs.State.{State, state, performOnSegments}
-use Rattle.segments.specs.Sound.{SoundFiled, SoundPlace, SoundOpen, SoundHouse}
+use Rattle.segments.specs.laws.Sound.{SoundFiled, SoundPlace, SoundOpen, SoundHouse}
 use Rattle.model.specs.Model.{Body, body, model, elementsOfFile, bodyAfter, modelLevel}
 use Rattle.model.specs.Step.{performOnModel}
 use Rattle.model.specs.View.{viewPlace, viewOpening, viewEntry}
@@ -111,7 +111,7 @@ module _ (m : State) (sound : SoundHouse (m .house)) (fits : segmentCells * (m .
         ap (λ (c : Body). opening n c) (ap (λ (p : Option ℕ). bodySeen cells (placeSegments (h .records) p) n (segmentsAfter h x n d)) e ∙ q)
 
     -- a deed that stores nothing
-    still-seen : (t : Told) (n : Handle) (d : Deed) → storeAfter st h x d ≡ st → n .place ≡ x .handle .place → Inside (x .handle) t
+    still-seen : (t : Delivered) (n : Handle) (d : Deed) → storeAfter st h x d ≡ st → n .place ≡ x .handle .place → Inside (x .handle) t
         → bodySeen st rsegs n (segmentsAfter h x n d) ≡ bodyAfter (viewOpening st (h .records) x) n d → Seen x (used (does t n d))
     still-seen t n d es ep k q = record {
       after =

@@ -11,7 +11,7 @@ use Rattle.rules.specs.House.{house}
 use Rattle.segments.specs.Free.{SegmentRecord, SegmentOpening, SegmentHouse, hasRoom}
 use Rattle.segments.specs.Deeds.{takesAt, target}
 use Rattle.segments.specs.State.{State}
-use Rattle.segments.specs.Sound.{SoundHouse}
+use Rattle.segments.specs.laws.Sound.{SoundHouse}
 use Rattle.model.specs.Model.{File, Body, Model, model}
 use Rattle.model.specs.View.{viewPlace, viewOpening, viewEntry, viewHouse}
 use Rattle.proof_requests_sound.specs.Lists.{map-set}

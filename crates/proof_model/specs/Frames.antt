@@ -8,14 +8,14 @@ use mathlib.Core.List.{List}
 use lib.Dec.{T, T-not}
 use lib.ListN.{getD, set}
 use Rattle.combine.specs.Lists.{isIn}
-use Rattle.placing.specs.Placing.{segment, listPlace}
+use Rattle.placing.specs.Placing.{segment, slotOf}
 use Rattle.store.specs.Store.{segmentOf, elementsIn}
-use Rattle.store.specs.Elements.{Outside}
-use Rattle.store.specs.Files.{Unlisted, elements-kept}
+use Rattle.store.specs.laws.Elements.{Outside}
+use Rattle.store.specs.laws.Files.{Unlisted, elements-kept}
 use Rattle.rules.specs.Headings.{filing, opening, handleOf, passes}
 use Rattle.rules.specs.House.{opensPlace}
 use Rattle.segments.specs.Free.{SegmentRecord, SegmentOpening, recordSegments, openingSegments, placeSegments}
-use Rattle.segments.specs.Sound.{SoundFile, SoundPlace, SoundEntry}
+use Rattle.segments.specs.laws.Sound.{SoundFile, SoundPlace, SoundEntry}
 use Rattle.model.specs.Model.{File, body}
 use Rattle.model.specs.View.{viewPlace, viewEntry}
 use Rattle.proof_requests_sound.specs.Counts.{in-at}
@@ -33,7 +33,7 @@ module _ (st st′ : List ℕ) (g : ℕ) (kept : (k : ℕ) → Outside (segment 
       unlisted : Unlisted gs s b e (segment g)
       unlisted x l r q =
           let held = near-inside s (f .species) b e (f .first) x l r in
-          T-not (isIn g gs) t (in-at g gs (listPlace s b x) (omega (arith, f .each)) q)
+          T-not (isIn g gs) t (in-at g gs (slotOf s b x) (omega (arith, f .each)) q)
 
   pub place-frame : (n : ℕ) (r : Option SegmentRecord) → SoundPlace n r → T (not (isIn g (recordSegments r))) → viewPlace st′ r ≡ viewPlace st r
   place-frame n none f t = refl

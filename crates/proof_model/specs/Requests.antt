@@ -16,11 +16,11 @@ use Rattle.rules.specs.Levels.{ruled, orBlank}
 use Rattle.segments.specs.Free.{SegmentOpening}
 use Rattle.segments.specs.Deeds.{segmentLevel}
 use Rattle.segments.specs.State.{State, performOnSegments, requestOnSegments}
-use Rattle.segments.specs.Sound.{SoundHouse}
+use Rattle.segments.specs.laws.Sound.{SoundHouse}
 use Rattle.model.specs.Model.{Body, Model, modelLevel}
 use Rattle.model.specs.Step.{performOnModel, requestOnModel}
 use Rattle.model.specs.View.{viewOpening, viewEntry, viewHouse}
-use Rattle.model.specs.Sight.{rule-seen}
+use Rattle.model.specs.laws.Sight.{rule-seen}
 use Rattle.proof_requests_sound.specs.Requests.{effect-allowed}
 use Rattle.proof_model.specs.Counted.{room-seen}
 use Rattle.proof_model.specs.Entries.{viewState}

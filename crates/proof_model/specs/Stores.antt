@@ -9,18 +9,18 @@ use mathlib.Core.List.{List}
 use lib.Dec.{T, not-T, nleb→lt, leb→le}
 use lib.ListN.{length, getD}
 use Rattle.combine.specs.Lists.{isIn, put}
-use Rattle.combine.specs.Numbers.{eq-or-ne, le-or-lt}
+use Rattle.combine.specs.laws.Numbers.{eq-or-ne, le-or-lt}
 use Rattle.placing.specs.Sizes.{segmentCells, userOf, widthOf}
-use Rattle.placing.specs.Placing.{segment, position, stretchOf, listPlace}
-use Rattle.placing.specs.Sized.{stretch-mono}
+use Rattle.placing.specs.Placing.{segment, position, stretchOf, slotOf}
+use Rattle.placing.specs.laws.Sized.{stretch-mono}
 use Rattle.store.specs.Store.{elementAt, zeroed, copied, segmentOf, elementsIn}
-use Rattle.store.specs.Elements.{Within, Outside, element-elsewhere, put-length, put-outside, put-same, put-beside, zeroed-length, zeroed-outside, copied-length, copied-outside, copied-element}
-use Rattle.store.specs.Files.{elementIn, segment-put, segment-kept}
-use Rattle.rules.specs.Headings.{Handle, value, moved, placeIn}
+use Rattle.store.specs.laws.Elements.{Within, Outside, element-elsewhere, put-length, put-outside, put-same, put-beside, zeroed-length, zeroed-outside, copied-length, copied-outside, copied-element}
+use Rattle.store.specs.laws.Files.{elementIn, segment-put, segment-kept}
+use Rattle.rules.specs.Headings.{Handle, value, moved, slotIn}
 use Rattle.rules.specs.Effects.{stores}
 use Rattle.segments.specs.Free.{SegmentOpening, SegmentHouse, placeSegments, hasRoom}
 use Rattle.segments.specs.Deeds.{lacks, segmentAt, sharesAt, takesAt, target, segmentsAfter, prepared, storeAfter}
-use Rattle.segments.specs.Sound.{SoundOpen, SoundHouse}
+use Rattle.segments.specs.laws.Sound.{SoundOpen, SoundHouse}
 use Rattle.model.specs.Model.{bodyAfter}
 use Rattle.model.specs.View.{viewOpening}
 use Rattle.proof_requests_sound.specs.Tests.{false-of}
@@ -78,15 +78,15 @@ module _ (st : List ℕ) (h : SegmentHouse) (sound : SoundHouse h) (fits : segme
   stored = storeAfter st h x (stores v n)
 
   abbrev listed : List ℕ
-  listed = put (x .content) (placeIn (x .handle) v) (target h x v)
+  listed = put (x .content) (slotIn (x .handle) v) (target h x v)
 
   before : SoundOpen (h .segments) (userOf i) (h .records) x
   before = sound-at h sound i x ix
 
-  pub aim : Target h i x (placeIn (x .handle) v) (target h x v)
+  pub aim : Target h i x (slotIn (x .handle) v) (target h x v)
   aim = target-of h (sound .once) i x ix (before .file .range) v room
 
-  near : placeIn (x .handle) v ≤ length (x .content)
+  near : slotIn (x .handle) v ≤ length (x .content)
   near = rw (before .file .each) (⊎-elim
       (λ l. let e : v ≡ end = omega arith in rw e (near-end species (before .file .species) begin end (before .file .first) (before .file .order)))
       (λ l. let z = near-inside species (before .file .species) begin end (before .file .first) v low l in omega arith)
@@ -97,7 +97,7 @@ module _ (st : List ℕ) (h : SegmentHouse) (sound : SoundHouse h) (fits : segme
 
   source : T (not (lacks x v)) → Within (segment (segmentAt x v)) st
   unfolding segmentOf
-  source t = let l = before .file .range (placeIn (x .handle) v) (nleb→lt (length (x .content)) (placeIn (x .handle) v) t) in omega arith
+  source t = let l = before .file .range (slotIn (x .handle) v) (nleb→lt (length (x .content)) (slotIn (x .handle) v) t) in omega arith
 
   prepared-length : length (prepared st h x v) ≡ length st
   unfolding prepared
@@ -120,7 +120,7 @@ module _ (st : List ℕ) (h : SegmentHouse) (sound : SoundHouse h) (fits : segme
 
   new-element : elementIn stored listed species begin v ≡ n % 2 ^ widthOf species
   new-element =
-      ap (λ (g : ℕ). elementAt stored species (segment g) (position v)) (segment-put (x .content) species begin (placeIn (x .handle) v) goal near v refl)
+      ap (λ (g : ℕ). elementAt stored species (segment g) (position v)) (segment-put (x .content) species begin (slotIn (x .handle) v) goal near v refl)
       ∙ put-same (prepared st h x v) species (before .file .species) (segment goal) (position v) n still-ready
 
   in-place : T (not (lacks x v)) → T (not (sharesAt (h .records) x v)) → goal ≡ segmentAt x v
@@ -128,12 +128,12 @@ module _ (st : List ℕ) (h : SegmentHouse) (sound : SoundHouse h) (fits : segme
   in-place a b = rw (false-of (lacks x v) a, false-of (sharesAt (h .records) x v) b) refl
 
   -- another position of the same stretch
-  beside : (y : ℕ) → begin ≤ y → y < end → y ≢ v → placeIn (x .handle) y ≡ placeIn (x .handle) v
+  beside : (y : ℕ) → begin ≤ y → y < end → y ≢ v → slotIn (x .handle) y ≡ slotIn (x .handle) v
       → elementAt stored species (segment goal) (position y) ≡ elementIn st (x .content) species begin y
-  unfolding prepared segmentOf listPlace
+  unfolding prepared segmentOf slotOf
   beside y l r d q =
       let held = near-inside species (before .file .species) begin end (before .file .first) y l r in
-      let some-there : T (not (lacks x v)) = not-T (lacks x v) (λ t. let z = leb→le (length (x .content)) (placeIn (x .handle) v) t in omega (arith, before .file .each)) in
+      let some-there : T (not (lacks x v)) = not-T (lacks x v) (λ t. let z = leb→le (length (x .content)) (slotIn (x .handle) v) t in omega (arith, before .file .each)) in
       let one : stretchOf species v ≡ stretchOf species y =
       omega (arith, q, stretch-mono species (before .file .species) begin v low, stretch-mono species (before .file .species) begin y l) in
       put-beside (prepared st h x v) species (before .file .species) (segment goal) (position v) n (position y) still-ready (omega (arith, before .file .first)) (omega (arith, before .file .first)) one d
@@ -141,19 +141,19 @@ module _ (st : List ℕ) (h : SegmentHouse) (sound : SoundHouse h) (fits : segme
       ∙ ap (λ (k : ℕ). elementAt st species (segment (getD (x .content) k 0)) (position y)) (sym q)
 
   -- a position of another stretch
-  elsewhere : (y : ℕ) → begin ≤ y → y < end → placeIn (x .handle) y ≢ placeIn (x .handle) v
+  elsewhere : (y : ℕ) → begin ≤ y → y < end → slotIn (x .handle) y ≢ slotIn (x .handle) v
       → elementAt stored species (segment (segmentOf (x .content) species begin y)) (position y) ≡ elementIn st (x .content) species begin y
   unfolding segmentOf
   elsewhere y l r d =
       let held = near-inside species (before .file .species) begin end (before .file .first) y l r in
       element-elsewhere st stored species (before .file .species) (segment goal) (segment (segmentOf (x .content) species begin y)) (position y) stored-outside
-      (aim .apart (placeIn (x .handle) y) (omega (arith, before .file .each)) d)
+      (aim .apart (slotIn (x .handle) y) (omega (arith, before .file .each)) d)
 
   other-elements : (y : ℕ) → begin ≤ y → y < end → y ≢ v → elementIn stored listed species begin y ≡ elementIn st (x .content) species begin y
   other-elements y l r d = ⊎-elim
-      (λ q. ap (λ (g : ℕ). elementAt stored species (segment g) (position y)) (segment-put (x .content) species begin (placeIn (x .handle) v) goal near y q) ∙ beside y l r d q)
-      (λ q. ap (λ (g : ℕ). elementAt stored species (segment g) (position y)) (segment-kept (x .content) species begin (placeIn (x .handle) v) goal near y q) ∙ elsewhere y l r q)
-      (eq-or-ne (placeIn (x .handle) y) (placeIn (x .handle) v))
+      (λ q. ap (λ (g : ℕ). elementAt stored species (segment g) (position y)) (segment-put (x .content) species begin (slotIn (x .handle) v) goal near y q) ∙ beside y l r d q)
+      (λ q. ap (λ (g : ℕ). elementAt stored species (segment g) (position y)) (segment-kept (x .content) species begin (slotIn (x .handle) v) goal near y q) ∙ elsewhere y l r q)
+      (eq-or-ne (slotIn (x .handle) y) (slotIn (x .handle) v))
 
   -- ---- what users know of the opening
 
@@ -164,10 +164,10 @@ module _ (st : List ℕ) (h : SegmentHouse) (sound : SoundHouse h) (fits : segme
   not-shared none = tt
   not-shared (some p) = aim .noRecord p
 
-  flags : sharedWith rsegs listed ≡ put (sharedWith rsegs (x .content)) (placeIn (x .handle) v) false
+  flags : sharedWith rsegs listed ≡ put (sharedWith rsegs (x .content)) (slotIn (x .handle) v) false
   flags =
-      map-put (λ g. isIn g rsegs) (x .content) (placeIn (x .handle) v) goal
-      ∙ ap (put (sharedWith rsegs (x .content)) (placeIn (x .handle) v)) (false-of (isIn goal rsegs) (not-shared (x .handle .place)))
+      map-put (λ g. isIn g rsegs) (x .content) (slotIn (x .handle) v) goal
+      ∙ ap (put (sharedWith rsegs (x .content)) (slotIn (x .handle) v)) (false-of (isIn goal rsegs) (not-shared (x .handle .place)))
 
   pub replaced-seen : (p : ℕ) → p ≢ 0 → p ≢ 1 → v < end
       → let m = moved old p (v + 1) in bodySeen stored rsegs m (segmentsAfter h x m (stores v n)) ≡ bodyAfter (viewOpening st (h .records) x) m (stores v n)

@@ -13,7 +13,7 @@ use Rattle.rules.specs.Calls.{new, work, read, Request, opens, closes, abandons
 use Rattle.rules.specs.Headings.{Heading, Handle, passes, isSome}
 use Rattle.rules.specs.Effects.{Use, Effect, opensNew, opensOld, ended, unfiled, filed, used, Others}
 use Rattle.rules.specs.Access.{acting}
-use Rattle.rules.specs.Rules.{isOwn, isPublic, lookUp, openedAs, busy, openRecord, openOld, openNew, headed, without, placeFor, vanish, closing, rule, newHandle}
+use Rattle.rules.specs.Rules.{isOwn, isPublic, lookUp, openedAs, busy, openRecord, openOld, openNew, headed, without, placeFor, vanish, closeRule, rule, newHandle}
 use Rattle.proof_requests_sound.specs.Tests.{not-not, or-first, or-second, nor-first, nor-second, and-first, and-second, nand-second}
 use Rattle.proof_requests_sound.specs.Lists.{first-where, place-below}
 use Rattle.proof_requests_sound.specs.Verdicts.{Has, has, has-onDone}
@@ -128,9 +128,9 @@ module _ (u : ℕ) (rs : List (Option Heading)) (takes : ℕ → Bool) (o : Othe
       (l, first-where (λ r. not (isSome r)) rs none l)
   place-for (some p) t = refl
 
-  allowed-closing : (b : Bool) (h : Handle) → Has (Allowed u rs takes o (some h)) (closing b u rs h)
-  unfolding closing
-  allowed-closing b h = has _ _ _ _ (λ h18. has _ _ _ _ (λ h16. has _ _ _ _ (λ h17. go files refl h16 h17)))
+  allowed-close : (b : Bool) (h : Handle) → Has (Allowed u rs takes o (some h)) (closeRule b u rs h)
+  unfolding closeRule
+  allowed-close b h = has _ _ _ _ (λ h18. has _ _ _ _ (λ h16. has _ _ _ _ (λ h17. go files refl h16 h17)))
     where
       files : Bool
       files = h .permit && not (isScratch (h .name))
@@ -165,7 +165,7 @@ module _ (u : ℕ) (rs : List (Option Heading)) (takes : ℕ → Bool) (o : Othe
   allowed-rule (opens (read bytes)) none = allowed-old false (nameOf bytes)
   allowed-rule (opens w) (some h) = tt
   allowed-rule (closes b) none = tt
-  allowed-rule (closes b) (some h) = allowed-closing b h
+  allowed-rule (closes b) (some h) = allowed-close b h
   allowed-rule abandons none = tt
   allowed-rule abandons (some h) = an-end
   allowed-rule (uses a) none = tt

@@ -12,7 +12,7 @@ use lib.Seq.{getD-set-same, getD-set-other}
 use Rattle.combine.specs.Lists.{any}
 use Rattle.rules.specs.Headings.{Handle, passes}
 use Rattle.rules.specs.House.{opensPlace, worksPlace}
-use Rattle.segments.specs.Sound.{Single, Alone}
+use Rattle.segments.specs.laws.Sound.{Single, Alone}
 use Rattle.proof_requests_sound.specs.Tests.{and-first, and-second}
 use Rattle.proof_requests_sound.specs.Sums.{any-at}
 use Rattle.proof_requests_sound.specs.Lists.{either}

@@ -13,7 +13,7 @@ use Rattle.placing.specs.Sizes.{userOf}
 use Rattle.rules.specs.Headings.{Heading, headOf, handleOf, passes, isSome}
 use Rattle.rules.specs.House.{opensPlace}
 use Rattle.segments.specs.Free.{SegmentRecord, SegmentOpening, SegmentHouse, recordSegments, placeSegments}
-use Rattle.segments.specs.Sound.{Placed, SoundEntry, SoundHouse}
+use Rattle.segments.specs.laws.Sound.{Placed, SoundEntry, SoundHouse}
 use Rattle.proof_requests_sound.specs.Tests.{and-intro}
 use Rattle.proof_requests_sound.specs.Allowed.{PlaceOf, Filing}
 

@@ -11,15 +11,15 @@ use lib.ListN.{length, getD}
 use Rattle.placing.specs.Sizes.{segmentCells, entryOf, userOf}
 use Rattle.placing.specs.Placing.{segment, position}
 use Rattle.store.specs.Store.{zeroed, copied, segmentOf}
-use Rattle.store.specs.Elements.{put-length, put-outside, zeroed-length, zeroed-outside, copied-length, copied-outside}
+use Rattle.store.specs.laws.Elements.{put-length, put-outside, zeroed-length, zeroed-outside, copied-length, copied-outside}
 use Rattle.rules.specs.Calls.{Request}
-use Rattle.rules.specs.Headings.{value, placeIn}
+use Rattle.rules.specs.Headings.{value, slotIn}
 use Rattle.rules.specs.Effects.{stores, Use, Effect}
 use Rattle.rules.specs.Levels.{orBlank}
 use Rattle.segments.specs.Free.{SegmentOpening, hasRoom}
 use Rattle.segments.specs.Deeds.{lacks, segmentAt, sharesAt, takesAt, target, prepared, storeAfter, performStore, segmentLevel}
 use Rattle.segments.specs.State.{State, requestOnSegments}
-use Rattle.segments.specs.Sound.{SoundOpen, SoundHouse}
+use Rattle.segments.specs.laws.Sound.{SoundOpen, SoundHouse}
 use Rattle.proof_requests_sound.specs.Uses.{Usable, asks, renames, moves, first, last, replaces, appends}
 use Rattle.proof_requests_sound.specs.Allowed.{a-new, an-old, an-end, a-freeing, a-filing, a-use}
 use Rattle.proof_requests_sound.specs.Taken.{target-of}
@@ -51,7 +51,7 @@ module _ (m : State) (sound : SoundHouse (m .house)) (fits : segmentCells * (m .
       prepared-beyond : Beyond (prepared (m .store) (m .house) x v)
       unfolding prepared segmentOf
       prepared-beyond = go (lacks x v) (sharesAt (m .house .records) x v)
-          (λ t. before .file .range (placeIn (x .handle) v) (nleb→lt (length (x .content)) (placeIn (x .handle) v) t))
+          (λ t. before .file .range (slotIn (x .handle) v) (nleb→lt (length (x .content)) (slotIn (x .handle) v) t))
         where
           g : ℕ
           g = target (m .house) x v

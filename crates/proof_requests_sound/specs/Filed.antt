@@ -10,13 +10,13 @@ use lib.Dec.{T, eqb, eqb→eq, T-not}
 use lib.ListN.{length, getD, set, length-set, length-map}
 use lib.Seq.{getD-set-other}
 use Rattle.combine.specs.Lists.{any, isIn, same}
-use Rattle.combine.specs.Same.{same-true}
+use Rattle.combine.specs.laws.Same.{same-true}
 use Rattle.placing.specs.Sizes.{entries, userOf, greatestUser}
 use Rattle.rules.specs.Headings.{Heading, filing, headOf, handleOf, passes}
 use Rattle.rules.specs.Rules.{isOwn, isPublic, headed, without}
 use Rattle.rules.specs.House.{house}
 use Rattle.segments.specs.Free.{SegmentRecord, SegmentOpening, SegmentHouse, recordSegments, placeSegments}
-use Rattle.segments.specs.Sound.{times, timesInRecord, timesBut, timesInOpening, SoundPlace, SoundOpen, SoundEntry, OneStretch, Tied, Placed, SoundHouse}
+use Rattle.segments.specs.laws.Sound.{times, timesInRecord, timesBut, timesInOpening, SoundPlace, SoundOpen, SoundEntry, OneStretch, Tied, Placed, SoundHouse}
 use Rattle.proof_requests_sound.specs.Tests.{by-test, true-of, false-of, and-first, and-second, not-not}
 use Rattle.proof_requests_sound.specs.Sums.{any-at}
 use Rattle.proof_requests_sound.specs.Lists.{at-set, map-set, place-below}

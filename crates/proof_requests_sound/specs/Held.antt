@@ -5,10 +5,10 @@ use native.Mathlib.Nat.{add-div-right}
 use mathlib.Core.Path.{_≡_, ap}
 use mathlib.Core.Logic.{⊎-elim}
 use borrow.Author.Tests.{lt-ltb, le-ltb}
-use Rattle.combine.specs.Numbers.{le-or-lt}
+use Rattle.combine.specs.laws.Numbers.{le-or-lt}
 use Rattle.placing.specs.Sizes.{greatestSpecies, elementsOf}
-use Rattle.placing.specs.Placing.{stretchOf, heldOf, listPlace}
-use Rattle.placing.specs.Sized.{elements-many, stretch-mono}
+use Rattle.placing.specs.Placing.{stretchOf, heldOf, slotOf}
+use Rattle.placing.specs.laws.Sized.{elements-many, stretch-mono}
 
 pub held-some : (s b e : ℕ) → b < e → heldOf s b e ≡ stretchOf s (e - 1) - stretchOf s b + 1
 unfolding heldOf
@@ -53,13 +53,13 @@ module _ (s : ℕ) (species : s ≤ greatestSpecies) where
         (le-or-lt (e - 1) b)
 
     -- position v, inside or at the end, is in a held stretch, or in the one after
-    pub near-inside : (v : ℕ) → b ≤ v → v < e → listPlace s b v < heldOf s b e
-    unfolding listPlace
+    pub near-inside : (v : ℕ) → b ≤ v → v < e → slotOf s b v < heldOf s b e
+    unfolding slotOf
     near-inside v l r =
         omega (arith, held-some s b e (omega arith), stretch-mono s species b v l, stretch-mono s species v (e - 1) (omega arith))
 
-    pub near-end : b ≤ e → listPlace s b e ≤ heldOf s b e
-    unfolding listPlace
+    pub near-end : b ≤ e → slotOf s b e ≤ heldOf s b e
+    unfolding slotOf
     near-end h = ⊎-elim
         (λ l. let q : e ≡ b = omega arith in omega (arith, ap (stretchOf s) q))
         (λ l.
@@ -67,14 +67,14 @@ module _ (s : ℕ) (species : s ≤ greatestSpecies) where
         omega (arith, held-some s b e l, stretch-step (e - 1) (omega arith), ap (stretchOf s) q, stretch-mono s species b (e - 1) (omega arith)))
         (le-or-lt e b)
 
-    pub held-append : b ≤ e → heldOf s b (e + 1) ≡ listPlace s b e + 1
-    unfolding listPlace
+    pub held-append : b ≤ e → heldOf s b (e + 1) ≡ slotOf s b e + 1
+    unfolding slotOf
     held-append h =
         let q : e + 1 - 1 ≡ e = omega arith in
         omega (arith, held-some s b (e + 1) (omega arith), ap (stretchOf s) q)
 
-    pub held-grows : b ≤ e → heldOf s b e ≤ listPlace s b e + 1
-    unfolding listPlace
+    pub held-grows : b ≤ e → heldOf s b e ≤ slotOf s b e + 1
+    unfolding slotOf
     held-grows h = ⊎-elim
         (λ l. omega (arith, held-none s b e l))
         (λ l. omega (arith, held-some s b e l, stretch-mono s species (e - 1) e (omega arith)))

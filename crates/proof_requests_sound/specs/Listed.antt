@@ -15,7 +15,7 @@ use Rattle.combine.specs.Lists.{total, isIn, put}
 use Rattle.rules.specs.Headings.{handleOf, passes}
 use Rattle.rules.specs.House.{house, opensPlace}
 use Rattle.segments.specs.Free.{SegmentRecord, SegmentOpening, SegmentHouse, placeSegments, isFree}
-use Rattle.segments.specs.Sound.{times, timesInRecord, timesBut, timesInOpening, mentions, OneStretch}
+use Rattle.segments.specs.laws.Sound.{times, timesInRecord, timesBut, timesInOpening, mentions, OneStretch}
 use Rattle.proof_requests_sound.specs.Tests.{eqb-ne, eqb-eq}
 use Rattle.proof_requests_sound.specs.Sums.{total-set, total-alike}
 use Rattle.proof_requests_sound.specs.Counts.{times-put, but-less, in-where, free-unlisted}

@@ -9,9 +9,10 @@ use lib.Dec.{T, leb, eqb, leb→le, ltb→lt, nltb→le, ltb}
 use lib.ListN.{length, getD, take, replicate, length-append, length-take, List·getD-eq-default}
 use lib.Seq.{getD-take}
 use borrow.Author.Tests.{le-leb}
-use Rattle.combine.specs.Below.{allBelow, all-at, all-make, or-left, or-right, not-both}
+use Rattle.combine.specs.Below.{allBelow}
+use Rattle.combine.specs.laws.Below.{all-at, all-make, or-left, or-right, not-both}
 use Rattle.combine.specs.Rows.{allOf}
-use Rattle.names.specs.Names.{isSkipped, isDigit, isLetter, symbolsOf, nameOf, scratchName, isScratch, follows, nameb, titleb}
+use Rattle.names.specs.Names.{isSkipped, isDigit, isLetter, symbolsOf, nameOf, scratchName, isScratch, follows, nameb, openingNameb}
 use Rattle.proof_requests_sound.specs.Tests.{by-test, and-second}
 use Rattle.proof_requests_sound.specs.Lists.{replicate-at}
 
@@ -66,14 +67,14 @@ module _ (s : List ℕ) (small : Symbols s) where
       all-make _ 11 (λ k l. rw (filled-at k (omega arith), filled-at (k + 1) (omega arith)) (follows-on k)) in
       rw (first, rest)
 
-filled-title : (s : List ℕ) → Symbols s → titleb (filled s) ≡ true
-unfolding titleb allBelow
+filled-title : (s : List ℕ) → Symbols s → openingNameb (filled s) ≡ true
+unfolding openingNameb allBelow
 filled-title [] small = or-right (nameb (filled [])) true refl
 filled-title (x ∷ xs) small = or-left (nameb (filled (x ∷ xs))) _ (filled-name (x ∷ xs) small (omega arith))
 
 -- ---- the laws
 
-pub title-of-bytes : (bytes : List ℕ) → titleb (nameOf bytes) ≡ true
+pub title-of-bytes : (bytes : List ℕ) → openingNameb (nameOf bytes) ≡ true
 unfolding nameOf
 title-of-bytes bytes = filled-title (symbolsOf bytes) (symbols-of bytes)
 
@@ -82,7 +83,7 @@ unfolding nameOf
 twelve-of-bytes bytes =
     omega (arith, length-take 12 (symbolsOf bytes ++ replicate 12 63), length-append (symbolsOf bytes) (replicate 12 63))
 
-pub title-of-scratch : titleb scratchName ≡ true
+pub title-of-scratch : openingNameb scratchName ≡ true
 unfolding scratchName
 title-of-scratch = filled-title [] (λ k l. absurd (omega arith))
 
@@ -91,8 +92,8 @@ unfolding scratchName
 twelve-of-scratch = refl
 
 -- "an opening's name is as a record's or all 63"
-pub name-of-title : (n : List ℕ) → titleb n ≡ true → T (not (isScratch n)) → nameb n ≡ true
-unfolding titleb isScratch
+pub name-of-title : (n : List ℕ) → openingNameb n ≡ true → T (not (isScratch n)) → nameb n ≡ true
+unfolding openingNameb isScratch
 name-of-title n e s = go (nameb n) e
   where
     all-63 : (m : List ℕ) → eqb (getD m 0 0) 63 ≡ true → T (not (eqb (getD m 0 63) 63)) → ⊥
@@ -103,6 +104,6 @@ name-of-title n e s = go (nameb n) e
     go true p = refl
     go false p = absurd (all-63 n (all-at _ 12 p 0 (omega arith)) s)
 
-pub title-of-name : (n : List ℕ) → nameb n ≡ true → titleb n ≡ true
-unfolding titleb
+pub title-of-name : (n : List ℕ) → nameb n ≡ true → openingNameb n ≡ true
+unfolding openingNameb
 title-of-name n e = or-left (nameb n) _ e

@@ -16,7 +16,7 @@ use Rattle.rules.specs.House.{house, changed, othersOf}
 use Rattle.rules.specs.Levels.{perform}
 use Rattle.segments.specs.Free.{SegmentRecord, SegmentOpening, SegmentHouse, recordSegments, hasRoom}
 use Rattle.segments.specs.Deeds.{segmentLevel}
-use Rattle.segments.specs.Sound.{times, timesInRecord, mentions, SoundFiled, SoundPlace, SoundOpen, SoundEntry, Tied, Alone, SoundHouse}
+use Rattle.segments.specs.laws.Sound.{times, timesInRecord, mentions, SoundFiled, SoundPlace, SoundOpen, SoundEntry, Tied, Alone, SoundHouse}
 use Rattle.proof_requests_sound.specs.Sums.{total-at}
 use Rattle.proof_requests_sound.specs.Lists.{at-set, replicate-at, map-set}
 use Rattle.proof_requests_sound.specs.Names.{title-of-scratch, twelve-of-scratch, title-of-name}

@@ -8,8 +8,8 @@ use mathlib.Core.List.{List}
 use lib.ListN.{length, getD, take, drop, length-take, length-drop}
 use lib.Seq.{getD-take, getD-drop}
 use Rattle.combine.specs.Lists.{put}
-use Rattle.combine.specs.Numbers.{le-or-lt}
-use Rattle.store.specs.Lists.{getD-put-same, getD-put-other}
+use Rattle.combine.specs.laws.Numbers.{le-or-lt}
+use Rattle.store.specs.laws.Lists.{getD-put-same, getD-put-other}
 use Rattle.proof_requests_sound.specs.Lists.{length-put-in, length-put-end}
 
 abbrev pub InRange : ℕ → List ℕ → Type 0

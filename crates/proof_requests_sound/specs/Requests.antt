@@ -19,7 +19,7 @@ use Rattle.rules.specs.Levels.{perform, ruled, orBlank}
 use Rattle.segments.specs.Free.{SegmentOpening, SegmentHouse, hasRoom}
 use Rattle.segments.specs.Deeds.{takesAt, segmentLevel}
 use Rattle.segments.specs.State.{State, performOnSegments, requestOnSegments}
-use Rattle.segments.specs.Sound.{SoundHouse}
+use Rattle.segments.specs.laws.Sound.{SoundHouse}
 use Rattle.proof_requests_sound.specs.Verdicts.{Has, has, has-done}
 use Rattle.proof_requests_sound.specs.Allowed.{Allowed, allowed-rule}
 use Rattle.proof_requests_sound.specs.Opened.{opens-sound}

@@ -11,13 +11,13 @@ use lib.ListN.{length, getD, set}
 use Rattle.combine.specs.Lists.{put}
 use Rattle.placing.specs.Sizes.{entries, userOf, greatestUser}
 use Rattle.store.specs.Store.{segmentOf}
-use Rattle.rules.specs.Headings.{Handle, opening, headOf, handleOf, value, moved, holds, placeIn, passes}
+use Rattle.rules.specs.Headings.{Handle, opening, headOf, handleOf, value, moved, holds, slotIn, passes}
 use Rattle.rules.specs.Effects.{Use, Effect}
 use Rattle.rules.specs.House.{house, opensPlace, worksPlace, changed, othersOf}
 use Rattle.rules.specs.Levels.{perform}
 use Rattle.segments.specs.Free.{SegmentOpening, SegmentHouse, placeSegments, lowestFree, hasRoom}
 use Rattle.segments.specs.Deeds.{lacks, segmentAt, sharesAt, takesAt, target, segmentsAfter, segmentLevel}
-use Rattle.segments.specs.Sound.{times, mentions, SoundHouse}
+use Rattle.segments.specs.laws.Sound.{times, mentions, SoundHouse}
 use Rattle.proof_requests_sound.specs.Tests.{nor-first}
 use Rattle.proof_requests_sound.specs.Lists.{put-same}
 use Rattle.proof_requests_sound.specs.Uses.{Usable, asks, renames, moves, first, last, replaces, appends}
@@ -43,17 +43,17 @@ module _ (h : SegmentHouse) (s : SoundHouse h) (i : ℕ) (il : i < entries) (x :
       (λ g. rw (ix, e) (let z = k g in let w = but-less g (placeSegments (h .records) (x .handle .place)) l (x .content) 0 (omega arith) in omega arith))
 
   stores-once : (v : ℕ) (n : Handle) → n .place ≡ x .handle .place → (T (takesAt (h .records) x v) → T (hasRoom h))
-      → (g : ℕ) → mentions (having n (put (x .content) (placeIn (x .handle) v) (target h x v))) g ≤ 1
+      → (g : ℕ) → mentions (having n (put (x .content) (slotIn (x .handle) v) (target h x v))) g ≤ 1
   unfolding target segmentOf
   stores-once v n e room = go (takesAt (h .records) x v) refl
     where
       go : (b : Bool) → takesAt (h .records) x v ≡ b
-          → (g : ℕ) → mentions (having n (put (x .content) (placeIn (x .handle) v) (cond b (lowestFree h) (segmentAt x v)))) g ≤ 1
-      go true q = once-store h (s .once) i (entry-in h s i il) (lowestFree h) (placeIn (x .handle) v) x _ ix e refl (taken-free h (room (rw q tt)))
+          → (g : ℕ) → mentions (having n (put (x .content) (slotIn (x .handle) v) (cond b (lowestFree h) (segmentAt x v)))) g ≤ 1
+      go true q = once-store h (s .once) i (entry-in h s i il) (lowestFree h) (slotIn (x .handle) v) x _ ix e refl (taken-free h (room (rw q tt)))
       go false q =
           let k : T (not (lacks x v || sharesAt (h .records) x v)) = rw q tt in
-          let inside = nleb→lt (length (x .content)) (placeIn (x .handle) v) (nor-first (lacks x v) (sharesAt (h .records) x v) k) in
-          shrinks n _ e (λ g. rw (put-same (x .content) (placeIn (x .handle) v) 0 inside) (le-refl _))
+          let inside = nleb→lt (length (x .content)) (slotIn (x .handle) v) (nor-first (lacks x v) (sharesAt (h .records) x v) k) in
+          shrinks n _ e (λ g. rw (put-same (x .content) (slotIn (x .handle) v) 0 inside) (le-refl _))
 
   like : (w : Use) → Usable (x .handle) (takesAt (h .records) x) (hasRoom h) w → (w .handle .place ≡ x .handle .place) × (w .handle .permit ≡ x .handle .permit)
   like w (asks n) = (refl, refl)

@@ -10,10 +10,10 @@ use lib.ListN.{length, getD}
 use Rattle.combine.specs.First.{firstBelow}
 use Rattle.combine.specs.Lists.{any, isIn}
 use Rattle.store.specs.Store.{segmentOf}
-use Rattle.rules.specs.Headings.{placeIn}
+use Rattle.rules.specs.Headings.{slotIn}
 use Rattle.segments.specs.Free.{SegmentOpening, SegmentHouse, recordSegments, openingSegments, placeSegments, isFree, lowestFree, hasRoom}
 use Rattle.segments.specs.Deeds.{lacks, segmentAt, sharesAt, takesAt, target}
-use Rattle.segments.specs.Sound.{times, timesInOpening, mentions}
+use Rattle.segments.specs.laws.Sound.{times, timesInOpening, mentions}
 use Rattle.proof_requests_sound.specs.Tests.{false-of, nor-first, nor-second}
 use Rattle.proof_requests_sound.specs.Sums.{total-at, not-any}
 use Rattle.proof_requests_sound.specs.Counts.{times-at, times-two, in-at, own-record, own-opening}
@@ -76,16 +76,16 @@ module _ (h : SegmentHouse) (once : (g : ℕ) → mentions h g ≤ 1) (i : ℕ) 
       }
 
   -- where it takes a segment there is room
-  pub target-of : (v : ℕ) → (T (takesAt (h .records) x v) → T (hasRoom h)) → Target h i x (placeIn (x .handle) v) (target h x v)
+  pub target-of : (v : ℕ) → (T (takesAt (h .records) x v) → T (hasRoom h)) → Target h i x (slotIn (x .handle) v) (target h x v)
   unfolding target segmentOf
   target-of v room = go (takesAt (h .records) x v) refl
     where
-      go : (b : Bool) → takesAt (h .records) x v ≡ b → Target h i x (placeIn (x .handle) v) (cond b (lowestFree h) (segmentAt x v))
+      go : (b : Bool) → takesAt (h .records) x v ≡ b → Target h i x (slotIn (x .handle) v) (cond b (lowestFree h) (segmentAt x v))
       go true e =
           let t : T (hasRoom h) = room (rw e tt) in
-          free-target (placeIn (x .handle) v) (lowestFree h) (ltb→lt (lowestFree h) (h .segments) t) (taken-free h t)
+          free-target (slotIn (x .handle) v) (lowestFree h) (ltb→lt (lowestFree h) (h .segments) t) (taken-free h t)
       go false e =
           let n : T (not (lacks x v || sharesAt (h .records) x v)) = rw e tt in
-          own-target (placeIn (x .handle) v)
-          (nleb→lt (length (x .content)) (placeIn (x .handle) v) (nor-first (lacks x v) (sharesAt (h .records) x v) n))
+          own-target (slotIn (x .handle) v)
+          (nleb→lt (length (x .content)) (slotIn (x .handle) v) (nor-first (lacks x v) (sharesAt (h .records) x v) n))
           (nor-second (lacks x v) (sharesAt (h .records) x v) n)

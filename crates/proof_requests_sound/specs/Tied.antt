@@ -13,7 +13,7 @@ use lib.Seq.{getD-set-same, getD-set-other}
 use Rattle.placing.specs.Sizes.{greatestEnd}
 use Rattle.rules.specs.Headings.{Handle, value, moved}
 use Rattle.segments.specs.Free.{SegmentRecord, SegmentOpening}
-use Rattle.segments.specs.Sound.{OneStretch, Tied, Placed}
+use Rattle.segments.specs.laws.Sound.{OneStretch, Tied, Placed}
 use Rattle.proof_requests_sound.specs.Lists.{either}
 
 -- ---- pointer p moves to v

@@ -8,16 +8,16 @@ use mathlib.Core.List.{List}
 use lib.Dec.{T}
 use lib.ListN.{length, getD, take, drop, length-set, length-take, length-drop}
 use lib.Seq.{getD-take, getD-drop}
-use Rattle.combine.specs.Numbers.{le-or-lt}
+use Rattle.combine.specs.laws.Numbers.{le-or-lt}
 use Rattle.names.specs.Names.{nameOf}
 use Rattle.placing.specs.Sizes.{greatestEnd}
 use Rattle.placing.specs.Placing.{stretchOf, heldOf}
-use Rattle.placing.specs.Sized.{stretch-mono}
+use Rattle.placing.specs.laws.Sized.{stretch-mono}
 use Rattle.rules.specs.Headings.{Handle, opening, value, moved, named, holds}
 use Rattle.rules.specs.Effects.{Deed, stays, firstLeaves, lastLeaves}
 use Rattle.segments.specs.Free.{SegmentRecord, SegmentOpening, SegmentHouse}
 use Rattle.segments.specs.Deeds.{segmentsAfter}
-use Rattle.segments.specs.Sound.{SoundFile, SoundOpen, OneStretch}
+use Rattle.segments.specs.laws.Sound.{SoundFile, SoundOpen, OneStretch}
 use Rattle.proof_requests_sound.specs.Names.{title-of-bytes, twelve-of-bytes}
 use Rattle.proof_requests_sound.specs.Held.{held-none, held-first, dropped, held-last}
 use Rattle.proof_requests_sound.specs.Tied.{value-here, value-else, points-kept, works-kept, placeOr0, placed-still, placed-work}

@@ -14,13 +14,13 @@ use Rattle.placing.specs.Sizes.{mostHeld, greatestEnd}
 use Rattle.placing.specs.Placing.{heldOf}
 use Rattle.rules.specs.Calls.{Act, rename, reset, newPointer, deletePointer, write, next, prev, askSpecies, askClaim, askPermit, askSymbol, askBegin, askEnd, askValue}
 use Rattle.rules.specs.Headings.{Handle, value, moved, named}
-use Rattle.rules.specs.Effects.{stays, firstLeaves, lastLeaves, stores, Told, plain, element, Use, does}
-use Rattle.rules.specs.Access.{writing, nexting, preving, pointing, deleting, valuing, renaming, acting}
+use Rattle.rules.specs.Effects.{stays, firstLeaves, lastLeaves, stores, Delivered, plain, element, Use, does}
+use Rattle.rules.specs.Access.{writeRule, nextRule, prevRule, newPointerRule, deletePointerRule, valueRule, renameRule, acting}
 use Rattle.proof_requests_sound.specs.Tests.{not-not, nor-second, at-eq}
 use Rattle.proof_requests_sound.specs.Verdicts.{Has, has}
 
 -- an element that is told lies in the file
-abbrev pub Inside : Handle → Told → Type 0
+abbrev pub Inside : Handle → Delivered → Type 0
 Inside h (plain n) = Unit {0}
 Inside h (element v) = (value h 0 ≤ v) × (v < value h 1)
 
@@ -28,10 +28,10 @@ Inside h (element v) = (value h 0 ≤ v) × (v < value h 1)
 pub data Usable (h : Handle) (takes : ℕ → Bool) (room : Bool) : Use → Type 0 where
   asks : (n : ℕ) → Usable h takes room (does (plain n) h stays)
   renames : (bytes : List ℕ) → T (h .permit) → Usable h takes room (does (plain 0) (named h (nameOf bytes)) stays)
-  moves : (t : Told) (p v q : ℕ) → p ≢ 0 → p ≢ 1 → v ≤ value h q → (p ≡ 2 → 1 ≤ value h 0 → 1 ≤ v) → Inside h t
+  moves : (t : Delivered) (p v q : ℕ) → p ≢ 0 → p ≢ 1 → v ≤ value h q → (p ≡ 2 → 1 ≤ value h 0 → 1 ≤ v) → Inside h t
       → Usable h takes room (does t (moved h p v) stays)
-  first : (t : Told) → T (h .permit) → value h 0 < value h 1 → Inside h t → Usable h takes room (does t (moved h 0 (value h 0 + 1)) firstLeaves)
-  last : (t : Told) → T (h .permit) → value h 0 < value h 1 → Inside h t → Usable h takes room (does t (moved h 1 (value h 1 - 1)) lastLeaves)
+  first : (t : Delivered) → T (h .permit) → value h 0 < value h 1 → Inside h t → Usable h takes room (does t (moved h 0 (value h 0 + 1)) firstLeaves)
+  last : (t : Delivered) → T (h .permit) → value h 0 < value h 1 → Inside h t → Usable h takes room (does t (moved h 1 (value h 1 - 1)) lastLeaves)
   replaces : (p n : ℕ) → T (h .permit) → p ≢ 0 → p ≢ 1 → value h 0 ≤ value h p → value h p < value h 1 → (T (takes (value h p)) → T room)
       → Usable h takes room (does (plain 0) (moved h p (value h p + 1)) (stores (value h p) n))
   appends : (n : ℕ) → T (h .permit) → value h 0 ≤ value h 1 → value h 1 < greatestEnd → heldOf (h .species) (value h 0) (value h 1 + 1) ≤ mostHeld
@@ -46,9 +46,9 @@ module _ (takes : ℕ → Bool) (room : Bool) (h : Handle) where
   abbrev Fine : Verdict Use → Type 0
   Fine = Has (Usable h takes room)
 
-  usable-writing : (p n : ℕ) → Fine (writing p n takes room h)
-  unfolding writing
-  usable-writing p n =
+  usable-write : (p n : ℕ) → Fine (writeRule p n takes room h)
+  unfolding writeRule
+  usable-write p n =
       has _ _ _ _ (λ h4. has _ _ _ _ (λ h5. has _ _ _ _ (λ h6. has _ _ _ _ (λ h7. has _ _ _ _ (λ h10. has _ _ _ _ (λ h8. has _ _ _ _ (λ h9.
       go h5 h6 h7 h10 h8 h9)))))))
     where
@@ -70,9 +70,9 @@ module _ (takes : ℕ → Bool) (room : Bool) (h : Handle) where
           (λ p1 e h7 h10 h8 h9. replaces p n (not-not (h .permit) h5) p0 p1 (nltb→le (value h p) (value h 0) h6) (nleb→lt (value h 1) (value h p) h7)
           (takes-room (takes (value h p)) room h9)) refl)
 
-  usable-nexting : (p : ℕ) → Fine (nexting p h)
-  unfolding nexting
-  usable-nexting p =
+  usable-next : (p : ℕ) → Fine (nextRule p h)
+  unfolding nextRule
+  usable-next p =
       has _ _ _ _ (λ h4. has _ _ _ _ (λ h5. has _ _ _ _ (λ h6. has _ _ _ _ (λ h7.
       go h5 (nltb→le (value h p) (value h 0) h6) (nleb→lt (value h 1) (value h p) h7)))))
     where
@@ -87,9 +87,9 @@ module _ (takes : ℕ → Bool) (room : Bool) (h : Handle) where
           (λ h5 l r. first (element (value h 0)) (not-not (h .permit) h5) r (l, r))
           (λ p0 h5 l r. moves (element (value h p)) p (value h p + 1) 1 p0 (λ e. out e r) (omega arith) (λ e w. omega arith) (l, r))
 
-  usable-preving : (p : ℕ) → Fine (preving p h)
-  unfolding preving
-  usable-preving p =
+  usable-prev : (p : ℕ) → Fine (prevRule p h)
+  unfolding prevRule
+  usable-prev p =
       has _ _ _ _ (λ h4. has _ _ _ _ (λ h5. has _ _ _ _ (λ h6. has _ _ _ _ (λ h7.
       go h5 (nleb→lt (value h p) (value h 0) h6) (nltb→le (value h 1) (value h p) h7)))))
     where
@@ -104,38 +104,38 @@ module _ (takes : ℕ → Bool) (room : Bool) (h : Handle) where
           (λ h5 l r. last (element (value h 1 - 1)) (not-not (h .permit) h5) l (omega arith, omega arith))
           (λ p1 h5 l r. moves (element (value h p - 1)) p (value h p - 1) p (λ e. out e l) p1 (omega arith) (λ e w. omega arith) (omega arith, omega arith))
 
-  usable-pointing : (p : ℕ) → Fine (pointing p h)
-  unfolding pointing
-  usable-pointing p = has _ _ _ _ (λ h4. has _ _ _ _ (λ h21.
+  usable-new-pointer : (p : ℕ) → Fine (newPointerRule p h)
+  unfolding newPointerRule
+  usable-new-pointer p = has _ _ _ _ (λ h4. has _ _ _ _ (λ h21.
       let q = 3 + firstWhere (eqb 0) (drop 3 (h .pointers)) in
       moves (plain q) q (value h p) p (λ e. omega arith) (λ e. omega arith) (omega arith) (λ e. absurd (omega arith)) tt))
 
-  usable-deleting : (p : ℕ) → Fine (deleting p h)
-  unfolding deleting
-  usable-deleting p = has _ _ _ _ (λ h4.
+  usable-delete-pointer : (p : ℕ) → Fine (deletePointerRule p h)
+  unfolding deletePointerRule
+  usable-delete-pointer p = has _ _ _ _ (λ h4.
       let l : 3 ≤ p = nltb→le p 3 (nor-second (eqb (value h p) 0) (ltb p 3) h4) in
       moves (plain 0) p 0 0 (λ e. omega arith) (λ e. omega arith) (omega arith) (λ e. absurd (omega arith)) tt)
 
-  usable-valuing : (p : ℕ) → Fine (valuing p h)
-  unfolding valuing
-  usable-valuing p = has _ _ _ _ (λ h4. asks (value h p))
+  usable-value : (p : ℕ) → Fine (valueRule p h)
+  unfolding valueRule
+  usable-value p = has _ _ _ _ (λ h4. asks (value h p))
 
-  usable-renaming : (bytes : List ℕ) → Fine (renaming (nameOf bytes) h)
-  unfolding renaming
-  usable-renaming bytes = has _ _ _ _ (λ h5. renames bytes (not-not (h .permit) h5))
+  usable-rename : (bytes : List ℕ) → Fine (renameRule (nameOf bytes) h)
+  unfolding renameRule
+  usable-rename bytes = has _ _ _ _ (λ h5. renames bytes (not-not (h .permit) h5))
 
   pub usable-acting : (a : Act) → Has (Usable h takes room) (acting a takes room h)
-  usable-acting (rename bytes) = usable-renaming bytes
+  usable-acting (rename bytes) = usable-rename bytes
   usable-acting reset = moves (plain 0) 2 (value h 0) 0 (λ e. omega arith) (λ e. omega arith) (omega arith) (λ e w. w) tt
-  usable-acting (newPointer p) = usable-pointing p
-  usable-acting (deletePointer p) = usable-deleting p
-  usable-acting (write p n) = usable-writing p n
-  usable-acting (next p) = usable-nexting p
-  usable-acting (prev p) = usable-preving p
+  usable-acting (newPointer p) = usable-new-pointer p
+  usable-acting (deletePointer p) = usable-delete-pointer p
+  usable-acting (write p n) = usable-write p n
+  usable-acting (next p) = usable-next p
+  usable-acting (prev p) = usable-prev p
   usable-acting askSpecies = asks _
   usable-acting askClaim = asks _
   usable-acting askPermit = asks _
   usable-acting (askSymbol k) = asks _
   usable-acting askBegin = asks _
   usable-acting askEnd = asks _
-  usable-acting (askValue p) = usable-valuing p
+  usable-acting (askValue p) = usable-value p

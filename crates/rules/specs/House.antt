@@ -17,7 +17,7 @@ pub record House (C B : Type 0) : Type 0 where
   pub openings : List (Option (Open B))
 
 module _ {C B : Type 0} where
-  abbrev pub house : ℕ → List (Option (Filed C)) → List (Option (Open B)) → House C B
+  abbrev pub house : (segments : ℕ) (records : List (Option (Filed C))) (openings : List (Option (Open B))) → House C B
   house n rs xs = record { segments = n; records = rs; openings = xs }
 
   -- nothing is open
@@ -25,19 +25,19 @@ module _ {C B : Type 0} where
   closedDown h = house (h .segments) (h .records) (replicate entries none)
 
   -- after a fresh start over so many cells
-  abbrev pub freshHouse : ℕ → House C B
+  abbrev pub freshHouse : (cells : ℕ) → House C B
   freshHouse cells = house (freshSegments cells) (replicate places none) (replicate entries none)
 
 -- ---- what is seen of the others
 
 -- the opening's record is at place p; and it has the work permit
-abbrev pub opensPlace : ℕ → Handle → Bool
+abbrev pub opensPlace : (place : ℕ) → Handle → Bool
 opensPlace p h = passes (eqb p) (h .place)
 
-abbrev pub worksPlace : ℕ → Handle → Bool
+abbrev pub worksPlace : (place : ℕ) → Handle → Bool
 worksPlace p h = h .permit && opensPlace p h
 
-abbrev pub othersOf : {B : Type 0} → Bool → List (Option (Open B)) → Others
+abbrev pub othersOf : {B : Type 0} → (room : Bool) (openings : List (Option (Open B))) → Others
 othersOf room xs =
     record {
       room = room;
@@ -62,9 +62,9 @@ pub record Change (C B : Type 0) : Type 0 where
   pub entry : Option (Open B)
 
 module _ {C B : Type 0} where
-  abbrev pub change : ℕ → Filing C → Option (Open B) → Change C B
+  abbrev pub change : (answer : ℕ) → Filing C → (entry : Option (Open B)) → Change C B
   change n f x = record { answer = n; filing = f; entry = x }
 
   -- the change at entry i
-  abbrev pub changed : House C B → ℕ → Change C B → House C B
+  abbrev pub changed : House C B → (entry : ℕ) → Change C B → House C B
   changed h i c = house (h .segments) (refiled (h .records) (c .filing)) (set (h .openings) i (c .entry))

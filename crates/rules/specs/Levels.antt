@@ -7,7 +7,7 @@ use lib.ListN.{getD}
 use Rattle.combine.specs.Verdict.{Verdict}
 use Rattle.rules.specs.Calls.{Request}
 use Rattle.rules.specs.Headings.{Handle, Filed, Open, filing, opening, headOf, handleOf}
-use Rattle.rules.specs.Effects.{Deed, Told, Effect, opensNew, opensOld, ended, unfiled, filed, used}
+use Rattle.rules.specs.Effects.{Deed, Delivered, Effect, opensNew, opensOld, ended, unfiled, filed, used}
 use Rattle.rules.specs.Rules.{rule}
 use Rattle.rules.specs.House.{House, othersOf, kept, becomes, Change, change}
 
@@ -22,7 +22,7 @@ pub record Level (C B : Type 0) : Type 0 where
   pub filedAs : B → C
   -- the content of an opening after a deed, where the handle is the new one; the number of an answer
   pub after : House C B → Open B → Handle → Deed → B
-  pub says : Open B → Told → ℕ
+  pub says : Open B → Delivered → ℕ
 
 -- what stands for the handle of a closed entry
 abbrev pub blank : Handle
@@ -43,5 +43,5 @@ module _ {C B : Type 0} (L : Level C B) where
   perform h x (used u) = change (L .says x (u .told)) kept (some (opening (u .handle) (L .after h x (u .handle) (u .deed))))
 
   -- the rule of a request of user u, whose entry is x
-  abbrev pub ruled : Request → ℕ → House C B → Option (Open B) → Verdict Effect
+  abbrev pub ruled : Request → (user : ℕ) → House C B → (entry : Option (Open B)) → Verdict Effect
   ruled r u h x = rule r u (map headOf (h .records)) (handleOf x) (L .takes h (orBlank x)) (othersOf (L .room h) (h .openings))

@@ -9,7 +9,7 @@ use lib.ListN.{length, getD, set, replicate}
 use Rattle.combine.specs.Lists.{any, firstWhere, same}
 use Rattle.combine.specs.Verdict.{Verdict, refused, done, onDone, refuse_when_else_}
 use Rattle.placing.specs.Sizes.{greatestSpecies}
-use Rattle.names.specs.Names.{nameOf, scratchName, isScratch}
+use Rattle.names.specs.Names.{Symbols, nameOf, scratchName, isScratch}
 use Rattle.rules.specs.Calls.{Way, new, work, read, Request, opens, closes, abandons, uses}
 use Rattle.rules.specs.Headings.{Heading, Handle, value, passes, isSome}
 use Rattle.rules.specs.Effects.{Effect, opensNew, opensOld, ended, unfiled, filed, used, Others}
@@ -17,17 +17,17 @@ use Rattle.rules.specs.Access.{acting}
 
 -- ---- the catalogue
 
-abbrev pub hasName : List ℕ → Heading → Bool
+abbrev pub hasName : (name : Symbols) → Heading → Bool
 hasName n r = same (r .name) n
 
-abbrev pub isOwn : ℕ → List ℕ → Heading → Bool
+abbrev pub isOwn : (user : ℕ) (name : Symbols) → Heading → Bool
 isOwn u n r = eqb (r .owner) u && hasName n r
 
-abbrev pub isPublic : List ℕ → Heading → Bool
+abbrev pub isPublic : (name : Symbols) → Heading → Bool
 isPublic n r = not (r .private) && hasName n r
 
 -- "Look-up takes the user's own record of that name first, then a public one": its place; the number of places, where there is neither
-unfoldable pub lookUp : ℕ → List ℕ → List (Option Heading) → ℕ
+unfoldable pub lookUp : (user : ℕ) (name : Symbols) (catalogue : List (Option Heading)) → ℕ
 lookUp u n rs =
     let own = firstWhere (passes (isOwn u n)) rs in
     cond (ltb own (length rs)) own (firstWhere (passes (isPublic n)) rs)
@@ -35,25 +35,25 @@ lookUp u n rs =
 -- ---- opening: "Order: 20, 1, 2, then for an opening 3, then 19 (new) or 15, 11/12/13, 14 (old)"
 
 -- "New makes an empty scratch file with work permit."; "It starts with b = e = 1."
-abbrev pub newHandle : ℕ → Handle
+abbrev pub newHandle : (species : ℕ) → Handle
 newHandle s = record { place = none; permit = true; name = scratchName; species = s; pointers = 1 ∷ 1 ∷ 1 ∷ replicate 5 0 }
 
-unfoldable pub openNew : ℕ → Verdict Effect
+unfoldable pub openNew : (species : ℕ) → Verdict Effect
 openNew s =
     refuse 19 when ltb greatestSpecies s else
     done (opensNew (newHandle s))
 
 -- "On opening, the work pointer stands at the begin value."; w says that the file is opened for work
-unfoldable pub openedAs : Bool → ℕ → Heading → Handle
+unfoldable pub openedAs : (forWork : Bool) (place : ℕ) → Heading → Handle
 openedAs w p r = record { place = some p; permit = w; name = r .name; species = r .species; pointers = r .begin ∷ r .end ∷ r .begin ∷ replicate 5 0 }
 
 -- "Then 14: for work, if any opening of that record exists; for read, if a work opening of it exists."
-abbrev pub busy : Bool → ℕ → Others → Bool
+abbrev pub busy : (forWork : Bool) (place : ℕ) → Others → Bool
 busy true p o = o .opened p
 busy false p o = o .worked p
 
 -- at the place p that look-up found, with no record where it found none: "Work on another's public file: 13."
-abbrev pub openRecord : Bool → ℕ → ℕ → Option Heading → Others → Verdict Effect
+abbrev pub openRecord : (forWork : Bool) (user place : ℕ) → Option Heading → Others → Verdict Effect
 openRecord w u p none o = refused 11
 openRecord w u p (some r) o =
     refuse 13 when w && not (eqb (r .owner) u) else
@@ -61,10 +61,10 @@ openRecord w u p (some r) o =
     done (opensOld p (openedAs w p r))
 
 -- "If neither is there: 12 when another user has a private file of that name, else 11."
-abbrev pub isAnothers : ℕ → List ℕ → Heading → Bool
+abbrev pub isAnothers : (user : ℕ) (name : Symbols) → Heading → Bool
 isAnothers u n r = not (eqb (r .owner) u) && r .private && hasName n r
 
-unfoldable pub openOld : Bool → ℕ → List ℕ → List (Option Heading) → Others → Verdict Effect
+unfoldable pub openOld : (forWork : Bool) (user : ℕ) (name : Symbols) (catalogue : List (Option Heading)) → Others → Verdict Effect
 openOld w u n rs o =
     let p = lookUp u n rs in
     let neither = leb (length rs) p in
@@ -73,7 +73,7 @@ openOld w u n rs o =
     openRecord w u p (getD rs p none) o
 
 -- "Work and read open a permanent file by name."
-abbrev pub openWay : Way → ℕ → List (Option Heading) → Others → Verdict Effect
+abbrev pub openWay : Way → (user : ℕ) (catalogue : List (Option Heading)) → Others → Verdict Effect
 openWay (new s) u rs o = openNew s
 openWay (work bytes) u rs o = openOld true u (nameOf bytes) rs o
 openWay (read bytes) u rs o = openOld false u (nameOf bytes) rs o
@@ -82,28 +82,28 @@ openWay (read bytes) u rs o = openOld false u (nameOf bytes) rs o
 
 -- "Otherwise name, privacy, species, begin, end and segments become the record, a new file in the lowest free place, and replaced segments
 -- become free": the record's heading
-unfoldable pub headed : Bool → ℕ → Handle → Heading
+unfoldable pub headed : (public : Bool) (user : ℕ) → Handle → Heading
 headed public u h = record { owner = u; name = h .name; private = not public; species = h .species; begin = value h 0; end = value h 1 }
 
 -- the other records
-abbrev pub without : List (Option Heading) → Option ℕ → List (Option Heading)
+abbrev pub without : (catalogue : List (Option Heading)) (place : Option ℕ) → List (Option Heading)
 without rs none = rs
 without rs (some p) = set rs p none
 
 -- its place; the number of places, where none is free
-abbrev pub placeFor : List (Option Heading) → Option ℕ → ℕ
+abbrev pub placeFor : (catalogue : List (Option Heading)) (place : Option ℕ) → ℕ
 placeFor rs none = firstWhere (λ r. not (isSome r)) rs
 placeFor rs (some p) = p
 
 -- "New scratch: the file vanishes. Old work renamed to scratch: its record and all segments are freed."
-abbrev pub vanish : Option ℕ → Effect
+abbrev pub vanish : (place : Option ℕ) → Effect
 vanish none = ended
 vanish (some p) = unfiled p
 
 -- "16 is given exactly if the close would write a record and another record has the same owner and name, or public is asked and another
 -- public record has the name."; "Read: the opening ends."
-unfoldable pub closing : Bool → ℕ → List (Option Heading) → Handle → Verdict Effect
-closing public u rs h =
+unfoldable pub closeRule : (public : Bool) (user : ℕ) (catalogue : List (Option Heading)) → Handle → Verdict Effect
+closeRule public u rs h =
     let scratch = isScratch (h .name) in
     let files = h .permit && not scratch in
     let others = without rs (h .place) in
@@ -116,11 +116,11 @@ closing public u rs h =
 -- ---- the rule of a request, by the entry's handle: 3 where the entry is open at an opening, 2 where it is not open and must be;
 -- "Abandon: the opening ends, segments listed only by it become free, the record is untouched."
 
-abbrev pub rule : Request → ℕ → List (Option Heading) → Option Handle → (ℕ → Bool) → Others → Verdict Effect
+abbrev pub rule : Request → (user : ℕ) (catalogue : List (Option Heading)) (entry : Option Handle) (takes : ℕ → Bool) → Others → Verdict Effect
 rule (opens w) u rs none takes o = openWay w u rs o
 rule (opens w) u rs (some h) takes o = refused 3
 rule (closes public) u rs none takes o = refused 2
-rule (closes public) u rs (some h) takes o = closing public u rs h
+rule (closes public) u rs (some h) takes o = closeRule public u rs h
 rule abandons u rs none takes o = refused 2
 rule abandons u rs (some h) takes o = done ended
 rule (uses a) u rs none takes o = refused 2

@@ -29,12 +29,12 @@ openingSegments none = []
 openingSegments (some x) = x .content
 
 -- the segments of an opening's record
-abbrev pub placeSegments : List (Option SegmentRecord) → Option ℕ → List ℕ
+abbrev pub placeSegments : (records : List (Option SegmentRecord)) (place : Option ℕ) → List ℕ
 placeSegments rs none = []
 placeSegments rs (some p) = recordSegments (getD rs p none)
 
 -- "A segment is free if no catalogue record and no opening lists it"
-unfoldable pub isFree : SegmentHouse → ℕ → Bool
+unfoldable pub isFree : SegmentHouse → (segment : ℕ) → Bool
 isFree h g = not (any (λ r. isIn g (recordSegments r)) (h .records) || any (λ x. isIn g (openingSegments x)) (h .openings))
 
 -- "the number of free segments"

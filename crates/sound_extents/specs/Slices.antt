@@ -6,9 +6,10 @@ use mathlib.Core.List.{List, map}
 use native.Mathlib.Omega.{arith}
 use lib.Dec.{eqb, ltb}
 use lib.ListN.{length, getD, take, drop}
-use Rattle.combine.specs.Below.{allBelow, all-cong}
+use Rattle.combine.specs.Below.{allBelow}
+use Rattle.combine.specs.laws.Below.{all-cong}
 use Rattle.combine.specs.Lists.{part}
-use Rattle.combine.specs.Parts.{length-part, getD-part}
+use Rattle.combine.specs.laws.Parts.{length-part, getD-part}
 use Rattle.placing.specs.Sizes.{mostHeld}
 use Rattle.placing.specs.Placing.{segment}
 use Rattle.tables.specs.Fields.{numberAt}

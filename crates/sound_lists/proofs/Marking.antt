@@ -11,7 +11,7 @@ use lib.Dec.{eqb}
 use lib.ListN.{length, getD, set, length-set}
 use lib.Seq.{getD-set-same, getD-set-other}
 use borrow.Author.Tests.{eqb-true, eqb-false, eq-eqb, ne-eqb}
-use Rattle.combine.specs.Below.{not-both, all-zero, all-more, loop-true, loop-false}
+use Rattle.combine.specs.laws.Below.{not-both, all-zero, all-more, loop-true, loop-false}
 use Rattle.placing.specs.declared.Segment.{Segment}
 use Rattle.placing.specs.Placing.{segment}
 use Rattle.placing.specs.Sizes.{mostSegments}

@@ -8,12 +8,14 @@ use native.Mathlib.Nat.{eq-or-lt-of-le}
 use native.Mathlib.Numerals.{add-one}
 use native.Mathlib.Omega.{arith}
 use lib.ListN.{getD, replicate, length-replicate}
-use Rattle.combine.specs.Below.{allBelow, not-both, left-of, right-of, split-bool}
+use Rattle.combine.specs.Below.{allBelow}
+use Rattle.combine.specs.laws.Below.{not-both, left-of, right-of, split-bool}
 use Rattle.placing.specs.Sizes.{mostSegments}
 use Rattle.placing.specs.Placing.{heldOf, stretchOf}
 use Rattle.tables.specs.Layout.{segmentsIn}
-use Rattle.tables.specs.Lists.{heldIn, listed, stretchIn, familyOf, Distinct, distinctb, distinct-of}
-use Rattle.tables.specs.Sound.{Ranged}
+use Rattle.tables.specs.Lists.{heldIn, listed, stretchIn, familyOf, distinctb}
+use Rattle.tables.specs.laws.Lists.{Distinct, distinct-of}
+use Rattle.tables.specs.laws.Sound.{Ranged}
 use Rattle.sound_lists.specs.DistinctBy.{distinct-by}
 use Rattle.sound_lists.specs.Files.{FileOf}
 use Rattle.sound_lists.specs.ListFacts.{ListFacts, list-facts}

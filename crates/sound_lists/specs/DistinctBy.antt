@@ -5,8 +5,9 @@ use mathlib.Core.Bool.{Bool, true, false, _&&_, cond}
 use mathlib.Core.List.{List}
 use lib.Dec.{eqb}
 use borrow.Author.Tests.{eq-eqb, eqb-true}
-use Rattle.combine.specs.Below.{all-make, both}
-use Rattle.tables.specs.Lists.{heldIn, listed, stretchIn, familyOf, Distinct, agree, distinctb}
+use Rattle.combine.specs.laws.Below.{all-make, both}
+use Rattle.tables.specs.Lists.{heldIn, listed, stretchIn, familyOf, agree, distinctb}
+use Rattle.tables.specs.laws.Lists.{Distinct}
 
 module _ (t : List ℕ) where
   agree-by : (i k j l : ℕ) → (listed t i k ≡ listed t j l → (familyOf t i ≡ familyOf t j) × (stretchIn t i k ≡ stretchIn t j l)) → agree t i k j l ≡ true

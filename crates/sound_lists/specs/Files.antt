@@ -13,8 +13,8 @@ use Rattle.placing.specs.Sizes.{tablesLength, mostHeld, mostSegments, places, e
 use Rattle.placing.specs.Placing.{position, heldOf, stretchOf}
 use Rattle.tables.specs.Layout.{recordBase, openingBase}
 use Rattle.tables.specs.Lists.{heldIn, listed, stretchIn, familyOf}
-use Rattle.tables.specs.Sound.{Ranged}
-use Rattle.tables.specs.ExtentFacts.{SoundExtent}
+use Rattle.tables.specs.laws.Sound.{Ranged}
+use Rattle.tables.specs.laws.ExtentFacts.{SoundExtent}
 use Rattle.sound_lists.specs.FieldCells as cells
 use Rattle.sound_lists.specs.ListCells as list
 use Rattle.sound_lists.specs.ListFacts.{record-at, opening-at, list-facts}

@@ -5,14 +5,14 @@ use mathlib.Core.Logic.{_≢_, ⊎-elim}
 use mathlib.Core.List.{List}
 use native.Mathlib.Omega.{arith}
 use lib.ListN.{getD}
-use Rattle.combine.specs.Numbers.{le-or-lt, eq-or-ne}
+use Rattle.combine.specs.laws.Numbers.{le-or-lt, eq-or-ne}
 use Rattle.placing.specs.Sizes.{places, entries, mostHeld}
 use Rattle.tables.specs.Layout.{recordBase, openingBase, segmentsIn, recordAt, openingAt}
 use Rattle.tables.specs.Lists.{heldIn, listed, stretchIn, familyOf}
-use Rattle.tables.specs.Sound.{Ranged}
-use Rattle.tables.specs.ExtentFacts.{stretch-small}
-use Rattle.tables.specs.RecordFacts.{SoundRecord, record-holds, record-not-unused}
-use Rattle.tables.specs.OpeningFacts.{SoundOpening, opening-holds, opening-not-closed, closed-place}
+use Rattle.tables.specs.laws.Sound.{Ranged}
+use Rattle.tables.specs.laws.ExtentFacts.{stretch-small}
+use Rattle.tables.specs.laws.RecordFacts.{SoundRecord, record-holds, record-not-unused}
+use Rattle.tables.specs.laws.OpeningFacts.{SoundOpening, opening-holds, opening-not-closed, closed-place}
 use Rattle.sound_lists.specs.FieldCells.{used-cell, opened-cell}
 use Rattle.sound_lists.specs.ListCells as list
 

@@ -4,7 +4,8 @@ use mathlib.Core.Path.{_≡_}
 use mathlib.Core.Logic.{_⊎_}
 use mathlib.Core.Bool.{Bool, true, false}
 use mathlib.Core.List.{List}
-use Rattle.tables.specs.Lists.{heldIn, listed, stretchIn, familyOf, Distinct}
+use Rattle.tables.specs.Lists.{heldIn, listed, stretchIn, familyOf}
+use Rattle.tables.specs.laws.Lists.{Distinct}
 use Rattle.sound_lists.specs.Marks.{Remembers}
 
 -- the mark of a number in list i: whose file it is in and at which stretch, and never 0

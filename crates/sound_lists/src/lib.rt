@@ -10,7 +10,7 @@ ghost use lib.Dec.{eqb};
 ghost use Rattle.placing.specs.Sizes.{places, entries, mostSegments};
 ghost use Rattle.placing.specs.Placing.{heldOf, stretchOf};
 ghost use Rattle.tables.specs.Lists.{distinctb};
-ghost use Rattle.tables.specs.Sound.{Ranged};
+ghost use Rattle.tables.specs.laws.Sound.{Ranged};
 ghost use Rattle.sound_lists.specs.Files.{FileCells};
 ghost use Rattle.sound_lists.specs.Marks.{mayMark, markTo, cellsFrom, Marked, Remembers};
 ghost use Rattle.sound_lists.specs.Seen.{Seen, Told};

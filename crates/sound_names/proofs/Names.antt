@@ -8,11 +8,11 @@ use native.Mathlib.Omega.{arith}
 use lib.ListN.{length, getD}
 use lib.Seq.{ext-getD}
 use borrow.Author.Tests.{eq-eqb, ne-eqb, eqb-true}
-use Rattle.combine.specs.Numbers.{le-or-lt}
-use Rattle.combine.specs.Below.{split-bool}
-use Rattle.combine.specs.Rows.{one-bad, all-last}
+use Rattle.combine.specs.laws.Numbers.{le-or-lt}
+use Rattle.combine.specs.laws.Below.{split-bool}
+use Rattle.combine.specs.laws.Rows.{one-bad, all-last}
 use Rattle.combine.specs.Lists.{same}
-use Rattle.combine.specs.Same.{same-true, true-same}
+use Rattle.combine.specs.laws.Same.{same-true, true-same}
 use Rattle.tables.specs.declared.Record.{Record}
 use Rattle.tables.specs.Fields.{isUsed}
 use Rattle.tables.specs.Records.{clash}

@@ -7,10 +7,10 @@ use native.Mathlib.Omega.{arith}
 use lib.ListN.{getD}
 use borrow.Author.Tests.{eq-eqb, ne-eqb}
 use Rattle.combine.specs.Below.{allBelow}
-use Rattle.combine.specs.Parts.{getD-part}
+use Rattle.combine.specs.laws.Parts.{getD-part}
 use Rattle.tables.specs.Layout.{recordOf, recordAt}
 use Rattle.tables.specs.Fields.{isUsed}
-use Rattle.tables.specs.Records.{clash, aloneb}
+use Rattle.tables.specs.Records.{clash, noClashb}
 use Rattle.sound_names.specs.Keys.{Spelled}
 
 module _ (t : List ℕ) (p : ℕ) where
@@ -31,10 +31,10 @@ module _ (t : List ℕ) (p : ℕ) where
       one : (n : ℕ) → n ≤ 1 → (n ≡ 0 → ⊥) → n ≡ 1
       one n l z = omega (arith, z)
 
-  pub alone-unused : getD t (1 + 50 * p) 0 ≡ 0 → aloneb t p ≡ true
-  unfolding aloneb
+  pub alone-unused : getD t (1 + 50 * p) 0 ≡ 0 → noClashb t p ≡ true
+  unfolding noClashb
   alone-unused e = rw (ne-eqb (recordAt t p .used) 1 (λ o. omega (arith, used-cell)))
 
-  pub alone-used : isUsed (recordAt t p) ≡ true → allBelow p (λ q. not (clash (recordAt t p) (recordAt t q))) ≡ aloneb t p
-  unfolding aloneb
+  pub alone-used : isUsed (recordAt t p) ≡ true → allBelow p (λ q. not (clash (recordAt t p) (recordAt t q))) ≡ noClashb t p
+  unfolding noClashb
   alone-used u = sym (rw u)

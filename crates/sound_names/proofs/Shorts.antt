@@ -10,10 +10,11 @@ use lib.Dec.{eqb, leb}
 use lib.ListN.{length, getD, take, drop}
 use lib.Seq.{length-take-le, getD-take}
 use borrow.Author.Tests.{eq-eqb, ne-eqb, eqb-true, eqb-false, not-true}
-use Rattle.combine.specs.Below.{allBelow, all-at, all-make, all-cong, bad-left, bad-right, left-of, right-of, split-bool}
-use Rattle.combine.specs.Rows.{one-bad}
+use Rattle.combine.specs.Below.{allBelow}
+use Rattle.combine.specs.laws.Below.{all-at, all-make, all-cong, bad-left, bad-right, left-of, right-of, split-bool}
+use Rattle.combine.specs.laws.Rows.{one-bad}
 use Rattle.combine.specs.Lists.{isIn}
-use Rattle.combine.specs.Any.{not-in}
+use Rattle.combine.specs.laws.Any.{not-in}
 use Rattle.placing.specs.Sizes.{places}
 use Rattle.tables.specs.declared.Record.{Record}
 use Rattle.tables.specs.Layout.{recordAt}

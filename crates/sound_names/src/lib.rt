@@ -7,7 +7,7 @@ ghost use Rattle.combine.specs.Below.{allBelow};
 ghost use Rattle.placing.specs.Sizes.{places, tablesLength};
 ghost use Rattle.tables.specs.Layout.{recordOf, recordAt};
 ghost use Rattle.tables.specs.Fields.{isUsed};
-ghost use Rattle.tables.specs.Records.{clash, aloneb};
+ghost use Rattle.tables.specs.Records.{clash, noClashb};
 ghost use Rattle.sound_names.specs.Keys.{keyOf, shortOf, publicOf, kinb, newb, apartb, Spelled, Halved, Keyed};
 
 fn wide(cell: u32) -> u64
@@ -119,7 +119,7 @@ fn alone(
     p: usize,
 ) -> bool
     requires { ⌜ Keyed (now tables) (now high) (now low) (now owned) (now public) (p + 1) × (isUsed (recordAt (now tables) p) ≡ true) ⌝ }
-    ensures { λ r. ⌜ r ≡ aloneb (now (tables .entry)) p ⌝ }
+    ensures { λ r. ⌜ r ≡ noClashb (now (tables .entry)) p ⌝ }
 {
     // Records that clash have one short key: where no record before has it, none is compared one by one.
     if apart(owned, public, tables[15 + 50 * p], p) {
@@ -139,7 +139,7 @@ fn alone(
 // record is passed over, as its keys are 0 from the start.
 pub fn names_sound(tables: &[u32]) -> bool
     requires { ⌜ (length (now tables) ≡ tablesLength) × ((p : ℕ) → p < places → Spelled (recordAt (now tables) p)) ⌝ }
-    ensures { λ r. ⌜ r ≡ allBelow places (aloneb (now (tables .entry))) ⌝ }
+    ensures { λ r. ⌜ r ≡ allBelow places (noClashb (now (tables .entry))) ⌝ }
 {
     let mut high = [0u64; 64];
     let mut low = [0u64; 64];

@@ -8,7 +8,7 @@ use borrow.Author.Tests.{eq-eqb, ne-eqb}
 use lib.Dec.{eqb}
 use lib.ListN.{length, getD}
 use Rattle.combine.specs.Lists.{part}
-use Rattle.combine.specs.Parts.{length-part}
+use Rattle.combine.specs.laws.Parts.{length-part}
 use Rattle.placing.specs.Sizes.{entries, tablesLength}
 use Rattle.tables.specs.declared.Opening.{Opening}
 use Rattle.tables.specs.Layout.{openingOf, openingAt}

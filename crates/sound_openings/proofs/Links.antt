@@ -8,14 +8,15 @@ use native.Mathlib.Omega.{arith}
 use borrow.Author.Tests.{eq-eqb, ne-eqb, le-leb, lt-leb}
 use lib.Dec.{eqb}
 use lib.ListN.{getD}
-use Rattle.combine.specs.Parts.{getD-part}
-use Rattle.combine.specs.Rows.{allOf, one-bad, all-last}
+use Rattle.combine.specs.laws.Parts.{getD-part}
+use Rattle.combine.specs.Rows.{allOf}
+use Rattle.combine.specs.laws.Rows.{one-bad, all-last}
 use Rattle.placing.specs.Sizes.{places}
 use Rattle.tables.specs.declared.Record.{Record}
 use Rattle.tables.specs.declared.Opening.{Opening}
 use Rattle.tables.specs.Layout.{recordOf, recordAt, openingOf, openingAt}
 use Rattle.tables.specs.Fields.{recordFor}
-use Rattle.tables.specs.Openings.{linkb, readb, workb, sharesb}
+use Rattle.tables.specs.Openings.{linkb, readb, workb, besideRecordb}
 use Rattle.sound_extents.specs.Slices.{sliced, sliced-part}
 use Rattle.sound_openings.specs.Opened.{elsewhereb, linkedb}
 use Rattle.sound_openings.proofs.Titles.{or-first, or-second}
@@ -40,7 +41,7 @@ filed-row t p = ap recordOf (sliced-part t (1 + 50 * p) (1 + 50 * p + 50) 50 ref
 
 module _ (t : List ℕ) (i : ℕ) (o : Opening) where
   pub no-record : o .place ≡ 0 → eqb (o .permit) 1 ≡ linkedb t i o
-  unfolding linkedb linkb sharesb allOf
+  unfolding linkedb linkb besideRecordb allOf
   no-record e =
       let l : o .place ≤ places = omega arith in
       simp (le-leb _ _ l, eq-eqb _ _ e, and-true)
@@ -59,14 +60,14 @@ module _ (t : List ℕ) (i : ℕ) (o : Opening) where
     no-such-record n = one-bad _ 1 (simp (ne-eqb _ _ some) (ne-eqb _ _ (λ e. n (used-here ∙ e))))
 
     module _ (few : o .place ≤ places) (there : d .used ≡ 1) where
-      linked : (b : Bool) → sharesb t i o ≡ b → b ≡ linkedb t i o
+      linked : (b : Bool) → besideRecordb t i o ≡ b → b ≡ linkedb t i o
       unfolding linkedb linkb
       linked b e = all-last _ b (le-leb _ _ few, (simp (ne-eqb _ _ some) (eq-eqb _ _ (sym used-here ∙ there)), sym e))
 
       pub read-link : o .permit ≡ 0 → readb i o d ≡ linkedb t i o
-      unfolding sharesb
+      unfolding besideRecordb
       read-link z = ap (readb i o) same-record ∙ linked _ (simp (ne-eqb _ _ some, eq-eqb _ _ z))
 
       pub work-link : o .permit ≢ 0 → workb t i o d ≡ linkedb t i o
-      unfolding sharesb
+      unfolding besideRecordb
       work-link n = ap (workb t i o) same-record ∙ linked _ (simp (ne-eqb _ _ some, ne-eqb _ _ n))

@@ -6,10 +6,11 @@ use mathlib.Core.List.{List, map}
 use native.Mathlib.Omega.{arith}
 use lib.Dec.{eqb, leb, ltb, leb·suc-suc}
 use lib.ListN.{length, getD}
-use Rattle.combine.specs.Below.{allBelow, all-cong}
+use Rattle.combine.specs.Below.{allBelow}
+use Rattle.combine.specs.laws.Below.{all-cong}
 use Rattle.combine.specs.Lists.{part, same}
-use Rattle.combine.specs.Parts.{length-part, getD-part}
-use Rattle.combine.specs.Same.{same-all}
+use Rattle.combine.specs.laws.Parts.{length-part, getD-part}
+use Rattle.combine.specs.laws.Same.{same-all}
 use Rattle.placing.specs.Sizes.{mostHeld, greatestEnd}
 use Rattle.placing.specs.Placing.{segment}
 use Rattle.tables.specs.Layout.{openingOf}

@@ -8,10 +8,11 @@ use native.Mathlib.Omega.{arith}
 use borrow.Author.Tests.{eqb-true, eq-eqb}
 use lib.Dec.{eqb}
 use lib.ListN.{length, getD}
-use Rattle.combine.specs.Below.{allBelow, all-at, all-make, bool-ext}
-use Rattle.combine.specs.Numbers.{le-or-lt}
-use Rattle.combine.specs.Parts.{getD-part}
-use Rattle.combine.specs.Rows.{all-good, each-of}
+use Rattle.combine.specs.Below.{allBelow}
+use Rattle.combine.specs.laws.Below.{all-at, all-make, bool-ext}
+use Rattle.combine.specs.laws.Numbers.{le-or-lt}
+use Rattle.combine.specs.laws.Parts.{getD-part}
+use Rattle.combine.specs.laws.Rows.{all-good, each-of}
 use Rattle.placing.specs.Sizes.{mostHeld}
 use Rattle.tables.specs.Layout.{openingOf}
 use Rattle.tables.specs.Openings.{closedb}

@@ -5,16 +5,17 @@ use mathlib.Core.Path.{_≡_, sym}
 use mathlib.Core.Bool.{Bool, not, _||_}
 use mathlib.Core.List.{List, [], _∷_}
 use lib.Dec.{eqb, leb}
-use Rattle.combine.specs.Below.{bool-ext}
-use Rattle.combine.specs.Rows.{allOf, all-good, each-of}
+use Rattle.combine.specs.laws.Below.{bool-ext}
+use Rattle.combine.specs.Rows.{allOf}
+use Rattle.combine.specs.laws.Rows.{all-good, each-of}
 use Rattle.placing.specs.Sizes.{places}
 use Rattle.placing.specs.Placing.{heldOf}
 use Rattle.tables.specs.declared.Opening.{Opening}
 use Rattle.tables.specs.Layout.{segmentsIn, openingAt}
 use Rattle.tables.specs.Fields.{isOpen, valueOf}
 use Rattle.tables.specs.Records.{extentb, listb}
-use Rattle.tables.specs.Openings.{linkb, sharesb, pointersb, openb}
-use Rattle.names.specs.Names.{titleb}
+use Rattle.tables.specs.Openings.{linkb, besideRecordb, pointersb, openb}
+use Rattle.names.specs.Names.{openingNameb}
 
 -- entry j is i, or its opening has not the record at place p
 abbrev pub elsewhereb : List ℕ → ℕ → ℕ → ℕ → Bool
@@ -22,7 +23,7 @@ elsewhereb t i p j = eqb j i || not (eqb (openingAt t j .place) p)
 
 -- what an opening says of its record
 unfoldable pub linkedb : List ℕ → ℕ → Opening → Bool
-linkedb t i o = allOf (leb (o .place) places ∷ linkb t o ∷ sharesb t i o ∷ [])
+linkedb t i o = allOf (leb (o .place) places ∷ linkb t o ∷ besideRecordb t i o ∷ [])
 
 -- its extent, and the list of the segments that it holds; n is the number of segments
 unfoldable pub contentb : ℕ → Opening → Bool
@@ -38,7 +39,7 @@ openedb t i o =
     (isOpen o
     ∷ leb (o .permit) 1
     ∷ pointersb o
-    ∷ titleb (o .name)
+    ∷ openingNameb (o .name)
     ∷ contentb (segmentsIn t) o
     ∷ linkedb t i o
     ∷ [])

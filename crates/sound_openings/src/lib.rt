@@ -9,13 +9,13 @@ ghost use Rattle.combine.specs.Below.{allBelow};
 ghost use Rattle.placing.specs.Sizes.{entries, userOf, tablesLength};
 ghost use Rattle.tables.specs.Layout.{recordOf, openingOf};
 ghost use Rattle.tables.specs.Openings.{readb, workb, pointersb, openb, openingb, openingsb};
-ghost use Rattle.names.specs.Names.{titleb};
+ghost use Rattle.names.specs.Names.{openingNameb};
 ghost use Rattle.sound_openings.specs.Opened.{elsewhereb, linkedb, contentb};
 
 // "an opening's name is as a record's or all 63"
 fn title_sound(name: &[u32]) -> bool
     requires { ⌜ length (now name) ≡ 12 ⌝ }
-    ensures { λ r. ⌜ r ≡ titleb (now (name .entry)) ⌝ }
+    ensures { λ r. ⌜ r ≡ openingNameb (now (name .entry)) ⌝ }
 {
     if names::name_sound(name) {
         return true;

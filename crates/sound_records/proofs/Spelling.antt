@@ -7,9 +7,9 @@ use native.Mathlib.Omega.{arith}
 use lib.Dec.{eqb}
 use lib.ListN.{length, getD}
 use borrow.Author.Tests.{eqb-true}
-use Rattle.combine.specs.Below.{all-at, split-bool}
-use Rattle.combine.specs.Rows.{each-of}
-use Rattle.names.specs.Small.{name-small}
+use Rattle.combine.specs.laws.Below.{all-at, split-bool}
+use Rattle.combine.specs.laws.Rows.{each-of}
+use Rattle.names.specs.laws.Small.{name-small}
 use Rattle.names.proofs.Within.{within}
 use Rattle.tables.specs.declared.Record.{Record}
 use Rattle.tables.specs.Records.{usedb, unusedb, recordb}

@@ -7,10 +7,11 @@ use native.Mathlib.Omega.{arith}
 use lib.Dec.{eqb}
 use lib.ListN.{length, getD}
 use borrow.Author.Tests.{eq-eqb}
-use Rattle.combine.specs.Below.{allBelow, all-cong}
+use Rattle.combine.specs.Below.{allBelow}
+use Rattle.combine.specs.laws.Below.{all-cong}
 use Rattle.combine.specs.Rows.{allOf}
 use Rattle.combine.specs.Lists.{part}
-use Rattle.combine.specs.Parts.{getD-part}
+use Rattle.combine.specs.laws.Parts.{getD-part}
 use Rattle.placing.specs.Placing.{segment}
 use Rattle.tables.specs.Layout.{recordOf}
 use Rattle.tables.specs.Fields.{numberAt}

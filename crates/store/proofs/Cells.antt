@@ -9,8 +9,8 @@ use Rattle.placing.specs.declared.Position.{Position}
 use Rattle.placing.specs.declared.Cell.{Cell}
 use Rattle.placing.specs.Sizes.{greatestSpecies, widthOf}
 use Rattle.placing.specs.Placing.{cellOf, bitOf}
-use Rattle.placing.specs.Sized.{sized, bit-fits, cell-in}
-use Rattle.store.specs.Elements.{Within}
+use Rattle.placing.specs.laws.Sized.{sized, bit-fits, cell-in}
+use Rattle.store.specs.laws.Elements.{Within}
 
 module _ (s : ℕ) (h : s ≤ greatestSpecies) where
   -- the index is within the store

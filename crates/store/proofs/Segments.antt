@@ -10,7 +10,7 @@ use Rattle.placing.specs.declared.Segment.{Segment}
 use Rattle.placing.specs.declared.Cell.{Cell}
 use Rattle.placing.specs.Sizes.{segmentCells}
 use Rattle.store.specs.Store.{zeroed, copied}
-use Rattle.store.specs.Elements.{Within}
+use Rattle.store.specs.laws.Elements.{Within}
 
 -- the n cells from `base` on, written as a part of the store
 pasted : (st new s : List ℕ) (base at n : ℕ) → base ≡ at → new ≡ take n s → putMid base (base + n - base) st new ≡ paste st at s n

@@ -15,7 +15,8 @@ use Rattle.tables.specs.declared.Opening.{Opening}
 use Rattle.tables.specs.Layout.{positionNumber}
 use Rattle.tables.specs.Fields.{valueOf}
 use Rattle.tables.specs.Handles.{handleIn}
-use Rattle.tables.specs.Pointers.{lowestFree, value-in}
+use Rattle.tables.specs.Pointers.{lowestFreePointer}
+use Rattle.tables.specs.laws.Pointers.{value-in}
 
 -- the first element from place i on that passes a test
 module _ {A : Type 0} (f : A → Bool) (l : List A) (i : ℕ) (z : A) where
@@ -32,7 +33,7 @@ module _ {A : Type 0} (f : A → Bool) (l : List A) (i : ℕ) (z : A) where
 abbrev pub freeFrom : Opening → ℕ → ℕ
 freeFrom o i = i + firstWhere (eqb 0) (drop i (map positionNumber (o .pointers)))
 
-module _ (o : Opening) (i : ℕ) (eight : length (o .pointers) ≡ 8) (so-far : lowestFree o ≡ freeFrom o i) where
+module _ (o : Opening) (i : ℕ) (eight : length (o .pointers) ≡ 8) (so-far : lowestFreePointer o ≡ freeFrom o i) where
   points : List ℕ
   points = map positionNumber (o .pointers)
 
@@ -40,14 +41,14 @@ module _ (o : Opening) (i : ℕ) (eight : length (o .pointers) ≡ 8) (so-far : 
   unfolding points
   long = length-map (o .pointers) positionNumber ∙ eight
 
-  pub free-here : i < 8 → valueOf o i ≡ 0 → i ≡ lowestFree o
+  pub free-here : i < 8 → valueOf o i ≡ 0 → i ≡ lowestFreePointer o
   unfolding points
   free-here h e = sym (so-far ∙ first-here (eqb 0) points i 0 (omega (arith, long)) (eq-eqb 0 (value (handleIn o) i) (sym (value-in o i ∙ e))))
 
-  pub free-next : i < 8 → (valueOf o i ≡ 0 → ⊥) → lowestFree o ≡ freeFrom o (i + 1)
+  pub free-next : i < 8 → (valueOf o i ≡ 0 → ⊥) → lowestFreePointer o ≡ freeFrom o (i + 1)
   unfolding points
   free-next h d = so-far ∙ first-next (eqb 0) points i 0 (omega (arith, long)) (ne-eqb 0 (value (handleIn o) i) (λ e. d (sym (e ∙ value-in o i))))
 
-  pub free-end : 8 ≤ i → i ≡ lowestFree o
+  pub free-end : 8 ≤ i → i ≡ lowestFreePointer o
   unfolding points
   free-end h = sym (so-far ∙ first-end (eqb 0) points i 0 (omega (arith, long)))

@@ -6,16 +6,18 @@ use mathlib.Core.List.{List}
 use native.Mathlib.Omega.{arith}
 use lib.Dec.{eqb, ltb}
 use borrow.Author.Tests.{eq-eqb, ne-eqb, lt-ltb, le-ltb}
-use Rattle.combine.specs.Verdict.{Verdict, refused, done, onDone, refused-here, went-on}
+use Rattle.combine.specs.Verdict.{Verdict, refused, done, onDone}
+use Rattle.combine.specs.laws.Verdict.{refused-here, went-on}
 use Rattle.combine.specs.Outcome.{Outcome, outcomeOf, settle}
 use Rattle.placing.specs.Placing.{position}
 use Rattle.rules.specs.Headings.{Handle, value, moved, named}
 use Rattle.rules.specs.Effects.{Use, does, plain, stays}
-use Rattle.rules.specs.Access.{pointing, deleting, renaming}
+use Rattle.rules.specs.Access.{newPointerRule, deletePointerRule, renameRule}
 use Rattle.tables.specs.declared.Opening.{Opening}
 use Rattle.tables.specs.Fields.{valueOf}
 use Rattle.tables.specs.Handles.{handleIn, pointed, handled, carried}
-use Rattle.tables.specs.Pointers.{lowestFree, titled, value-in, moved-in, named-in}
+use Rattle.tables.specs.Pointers.{lowestFreePointer, titled}
+use Rattle.tables.specs.laws.Pointers.{value-in, moved-in, named-in}
 
 either-true : (a b : Bool) → b ≡ true → (a || b) ≡ true
 either-true true b e = refl
@@ -43,47 +45,47 @@ module _ (o : Opening) where
 
   -- ---- "A new own pointer takes the lowest free name, which is the answer, and the value of a given pointer."
 
-  pub new-none : (p : ℕ) → valueOf o p ≡ 0 → outcomeOf (refused 4) o ≡ after (pointing p (handleIn o))
-  unfolding pointing
-  new-none p e = refuses (pointing p (handleIn o)) 4 (refused-here 4 _ _ (no-value p e))
+  pub new-none : (p : ℕ) → valueOf o p ≡ 0 → outcomeOf (refused 4) o ≡ after (newPointerRule p (handleIn o))
+  unfolding newPointerRule
+  new-none p e = refuses (newPointerRule p (handleIn o)) 4 (refused-here 4 _ _ (no-value p e))
 
-  pub new-full : (p q : ℕ) → (valueOf o p ≡ 0 → ⊥) → q ≡ lowestFree o → 7 < q → outcomeOf (refused 21) o ≡ after (pointing p (handleIn o))
-  unfolding pointing lowestFree
-  new-full p q h f l = refuses (pointing p (handleIn o)) 21 (went-on 4 _ _ _ (some-value p h) (refused-here 21 _ _ (lt-ltb 7 (lowestFree o) (omega arith))))
+  pub new-full : (p q : ℕ) → (valueOf o p ≡ 0 → ⊥) → q ≡ lowestFreePointer o → 7 < q → outcomeOf (refused 21) o ≡ after (newPointerRule p (handleIn o))
+  unfolding newPointerRule lowestFreePointer
+  new-full p q h f l = refuses (newPointerRule p (handleIn o)) 21 (went-on 4 _ _ _ (some-value p h) (refused-here 21 _ _ (lt-ltb 7 (lowestFreePointer o) (omega arith))))
 
-  takes : (p : ℕ) → (valueOf o p ≡ 0 → ⊥) → lowestFree o ≤ 7 → pointing p (handleIn o) ≡ done (does (plain (lowestFree o)) (moved (handleIn o) (lowestFree o) (value (handleIn o) p)) stays)
-  unfolding pointing lowestFree
-  takes p h l = went-on 4 _ _ _ (some-value p h) (went-on 21 _ _ _ (le-ltb 7 (lowestFree o) l) refl)
+  takes : (p : ℕ) → (valueOf o p ≡ 0 → ⊥) → lowestFreePointer o ≤ 7 → newPointerRule p (handleIn o) ≡ done (does (plain (lowestFreePointer o)) (moved (handleIn o) (lowestFreePointer o) (value (handleIn o) p)) stays)
+  unfolding newPointerRule lowestFreePointer
+  takes p h l = went-on 4 _ _ _ (some-value p h) (went-on 21 _ _ _ (le-ltb 7 (lowestFreePointer o) l) refl)
 
-  pub new-made : (p q : ℕ) (x : Opening) → (valueOf o p ≡ 0 → ⊥) → q ≡ lowestFree o → q ≤ 7 → x ≡ pointed o q (position (valueOf o p)) → outcomeOf (done q) x ≡ after (pointing p (handleIn o))
+  pub new-made : (p q : ℕ) (x : Opening) → (valueOf o p ≡ 0 → ⊥) → q ≡ lowestFreePointer o → q ≤ 7 → x ≡ pointed o q (position (valueOf o p)) → outcomeOf (done q) x ≡ after (newPointerRule p (handleIn o))
   new-made p q x h f l e =
       ap (λ (n : ℕ). outcomeOf (done n) x) f
-      ∙ uses (pointing p (handleIn o)) (lowestFree o) (moved (handleIn o) (lowestFree o) (value (handleIn o) p)) x (takes p h (omega arith))
-      (e ∙ (λ j. pointed o (f j) (position (sym (value-in o p) j))) ∙ sym (moved-in o (lowestFree o) (value (handleIn o) p)))
+      ∙ uses (newPointerRule p (handleIn o)) (lowestFreePointer o) (moved (handleIn o) (lowestFreePointer o) (value (handleIn o) p)) x (takes p h (omega arith))
+      (e ∙ (λ j. pointed o (f j) (position (sym (value-in o p) j))) ∙ sym (moved-in o (lowestFreePointer o) (value (handleIn o) p)))
 
   -- ---- "Only 3 to 7 can be deleted."
 
-  pub delete-none : (p : ℕ) → valueOf o p ≡ 0 → outcomeOf (refused 4) o ≡ after (deleting p (handleIn o))
-  unfolding deleting
-  delete-none p e = refuses (deleting p (handleIn o)) 4 (refused-here 4 _ _ (rw (no-value p e)))
+  pub delete-none : (p : ℕ) → valueOf o p ≡ 0 → outcomeOf (refused 4) o ≡ after (deletePointerRule p (handleIn o))
+  unfolding deletePointerRule
+  delete-none p e = refuses (deletePointerRule p (handleIn o)) 4 (refused-here 4 _ _ (rw (no-value p e)))
 
-  pub delete-standard : (p : ℕ) → p < 3 → outcomeOf (refused 4) o ≡ after (deleting p (handleIn o))
-  unfolding deleting
-  delete-standard p l = refuses (deleting p (handleIn o)) 4 (refused-here 4 _ _ (either-true (eqb (value (handleIn o) p) 0) (ltb p 3) (lt-ltb p 3 l)))
+  pub delete-standard : (p : ℕ) → p < 3 → outcomeOf (refused 4) o ≡ after (deletePointerRule p (handleIn o))
+  unfolding deletePointerRule
+  delete-standard p l = refuses (deletePointerRule p (handleIn o)) 4 (refused-here 4 _ _ (either-true (eqb (value (handleIn o) p) 0) (ltb p 3) (lt-ltb p 3 l)))
 
-  pub delete-made : (p : ℕ) (x : Opening) → (valueOf o p ≡ 0 → ⊥) → 3 ≤ p → x ≡ pointed o p (position 0) → outcomeOf (done 0) x ≡ after (deleting p (handleIn o))
-  unfolding deleting
+  pub delete-made : (p : ℕ) (x : Opening) → (valueOf o p ≡ 0 → ⊥) → 3 ≤ p → x ≡ pointed o p (position 0) → outcomeOf (done 0) x ≡ after (deletePointerRule p (handleIn o))
+  unfolding deletePointerRule
   delete-made p x h l e =
-      uses (deleting p (handleIn o)) 0 (moved (handleIn o) p 0) x
+      uses (deletePointerRule p (handleIn o)) 0 (moved (handleIn o) p 0) x
       (went-on 4 _ _ _ (rw (some-value p h) (le-ltb p 3 l)) refl)
       (e ∙ sym (moved-in o p 0))
 
   -- ---- "Renaming (needs the work permit) changes the opening's name only."
 
-  pub rename-refused : (n : List ℕ) → (o .permit ≡ 1 → ⊥) → outcomeOf (refused 5) o ≡ after (renaming n (handleIn o))
-  unfolding renaming
-  rename-refused n h = refuses (renaming n (handleIn o)) 5 (refused-here 5 _ _ (rw (ne-eqb (o .permit) 1 h)))
+  pub rename-refused : (n : List ℕ) → (o .permit ≡ 1 → ⊥) → outcomeOf (refused 5) o ≡ after (renameRule n (handleIn o))
+  unfolding renameRule
+  rename-refused n h = refuses (renameRule n (handleIn o)) 5 (refused-here 5 _ _ (rw (ne-eqb (o .permit) 1 h)))
 
-  pub rename-made : (n : List ℕ) → o .permit ≡ 1 → outcomeOf (done 0) (titled o n) ≡ after (renaming n (handleIn o))
-  unfolding renaming
-  rename-made n h = uses (renaming n (handleIn o)) 0 (named (handleIn o) n) (titled o n) (went-on 5 _ _ _ (rw (eq-eqb (o .permit) 1 h)) refl) (sym (named-in o n))
+  pub rename-made : (n : List ℕ) → o .permit ≡ 1 → outcomeOf (done 0) (titled o n) ≡ after (renameRule n (handleIn o))
+  unfolding renameRule
+  rename-made n h = uses (renameRule n (handleIn o)) 0 (named (handleIn o) n) (titled o n) (went-on 5 _ _ _ (rw (eq-eqb (o .permit) 1 h)) refl) (sym (named-in o n))

@@ -8,7 +8,7 @@ use lib.ListN.{set}
 use Rattle.placing.specs.declared.Position.{Position}
 use Rattle.placing.specs.Placing.{position}
 use Rattle.rules.specs.Headings.{Heading, Handle}
-use Rattle.rules.specs.Effects.{toldNumber, Use}
+use Rattle.rules.specs.Effects.{deliveredNumber, Use}
 use Rattle.tables.specs.declared.Record.{Record}
 use Rattle.tables.specs.declared.Opening.{Opening}
 use Rattle.tables.specs.Layout.{positionNumber}
@@ -44,4 +44,4 @@ handled o h = record { opened = o .opened; place = o .place; permit = o .permit;
 
 -- a use that leaves the content: the number of its answer, and the opening with the handle afterwards
 abbrev pub carried : Opening → Use → ℕ × Opening
-carried o u = (toldNumber (u .told), handled o (u .handle))
+carried o u = (deliveredNumber (u .told), handled o (u .handle))

@@ -1,9 +1,10 @@
 -- Where records and openings lie in the cells t of the tables: cell 0 is the number of segments, record p starts at 1 + 50 p,
 -- opening i at 3201 + 56 i. Assumes nothing.
 use Prim.Native.Nat.{ℕ, _+_, _*_}
-use mathlib.Core.List.{List, [], _∷_, _++_, map}
+use mathlib.Core.List.{[], _∷_, _++_, map}
 use lib.ListN.{getD, replicate}
 use lib.Seq.{paste}
+use Rattle.placing.specs.Sizes.{Cells}
 use Rattle.combine.specs.Lists.{part}
 use Rattle.placing.specs.declared.Segment.{Segment}
 use Rattle.placing.specs.declared.Position.{Position}
@@ -17,23 +18,23 @@ segmentNumber g = g .0
 abbrev pub positionNumber : Position → ℕ
 positionNumber x = x .0
 
-abbrev pub recordBase : ℕ → ℕ
+abbrev pub recordBase : (place : ℕ) → ℕ
 recordBase p = 1 + 50 * p
 
-abbrev pub openingBase : ℕ → ℕ
+abbrev pub openingBase : (entry : ℕ) → ℕ
 openingBase i = 3201 + 56 * i
 
-abbrev pub segmentsIn : List ℕ → ℕ
+abbrev pub segmentsIn : (tables : Cells) → ℕ
 segmentsIn t = getD t 0 0
 
 -- nothing is there, and nothing is open
-unfoldable pub freshTables : ℕ → List ℕ
+unfoldable pub freshTables : (segments : ℕ) → Cells
 freshTables n = n ∷ replicate 4992 0
 
 -- ---- a record of 50 numbers, in the image's order: "used 1, name 12 x 6, owner 3, private 1, species 3, begin 24, end 24, then 32
 -- segment numbers"
 
-unfoldable pub recordOf : List ℕ → Record
+unfoldable pub recordOf : (row : Cells) → Record
 recordOf c =
     record {
       used = getD c 0 0;
@@ -46,14 +47,14 @@ recordOf c =
       segments = map segment (part c 18 32);
     }
 
-unfoldable pub recordCells : Record → List ℕ
+unfoldable pub recordCells : Record → Cells
 recordCells r =
     r .used ∷ (r .name ++ (r .owner ∷ r .private ∷ r .species ∷ r .begin .0 ∷ r .end .0 ∷ map segmentNumber (r .segments)))
 
-unfoldable pub recordAt : List ℕ → ℕ → Record
+unfoldable pub recordAt : (tables : Cells) (place : ℕ) → Record
 recordAt t p = recordOf (part t (recordBase p) 50)
 
-unfoldable pub putRecord : List ℕ → ℕ → Record → List ℕ
+unfoldable pub putRecord : (tables : Cells) (place : ℕ) → Record → Cells
 putRecord t p r = paste t (recordBase p) (recordCells r) 50
 
 -- "an unused record is all zero"
@@ -62,7 +63,7 @@ unusedRecord = record { used = 0; name = replicate 12 0; owner = 0; private = 0;
 
 -- ---- an opening of 56 numbers
 
-unfoldable pub openingOf : List ℕ → Opening
+unfoldable pub openingOf : (row : Cells) → Opening
 openingOf c =
     record {
       opened = getD c 0 0;
@@ -74,14 +75,14 @@ openingOf c =
       segments = map segment (part c 24 32);
     }
 
-unfoldable pub openingCells : Opening → List ℕ
+unfoldable pub openingCells : Opening → Cells
 openingCells o =
     (o .opened ∷ o .place ∷ o .permit ∷ o .species ∷ []) ++ (map positionNumber (o .pointers) ++ (o .name ++ map segmentNumber (o .segments)))
 
-unfoldable pub openingAt : List ℕ → ℕ → Opening
+unfoldable pub openingAt : (tables : Cells) (entry : ℕ) → Opening
 openingAt t i = openingOf (part t (openingBase i) 56)
 
-unfoldable pub putOpening : List ℕ → ℕ → Opening → List ℕ
+unfoldable pub putOpening : (tables : Cells) (entry : ℕ) → Opening → Cells
 putOpening t i o = paste t (openingBase i) (openingCells o) 56
 
 -- a closed entry is all zero too

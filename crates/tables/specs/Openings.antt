@@ -2,15 +2,15 @@
 -- Assumes nothing.
 use Prim.Native.Nat.{ℕ, _+_}
 use mathlib.Core.Bool.{Bool, true, not, _||_, cond}
-use mathlib.Core.List.{List, [], _∷_}
+use mathlib.Core.List.{[], _∷_}
 use lib.Dec.{eqb, leb}
 use lib.ListN.{getD}
 use Rattle.combine.specs.Below.{allBelow}
 use Rattle.combine.specs.Rows.{allOf}
 use Rattle.combine.specs.Lists.{same}
-use Rattle.placing.specs.Sizes.{entries, userOf, places, mostHeld, greatestEnd}
+use Rattle.placing.specs.Sizes.{Cells, entries, userOf, places, mostHeld, greatestEnd}
 use Rattle.placing.specs.Placing.{heldOf}
-use Rattle.names.specs.Names.{titleb}
+use Rattle.names.specs.Names.{openingNameb}
 use Rattle.tables.specs.declared.Record.{Record}
 use Rattle.tables.specs.declared.Opening.{Opening}
 use Rattle.tables.specs.Layout.{segmentsIn, openingAt}
@@ -18,11 +18,11 @@ use Rattle.tables.specs.Fields.{isUsed, isOpen, valueOf, numberAt, recor
 use Rattle.tables.specs.Records.{extentb, listb}
 
 -- "each opening names one existing record, or none and then has the work permit"
-unfoldable pub linkb : List ℕ → Opening → Bool
+unfoldable pub linkb : (tables : Cells) → Opening → Bool
 linkb t o = cond (eqb (o .place) 0) (eqb (o .permit) 1) (isUsed (recordFor t o))
 
 -- "a read opening's record is public or its user's own, and the opening has that record's name, species, begin, end and segments"
-unfoldable pub readb : ℕ → Opening → Record → Bool
+unfoldable pub readb : (entry : ℕ) → Opening → Record → Bool
 readb i o r =
     allOf
     ((eqb (r .private) 0 || eqb (r .owner) (userOf i))
@@ -34,7 +34,7 @@ readb i o r =
     ∷ [])
 
 -- "a work opening's record is its user's own, of the same species, and has no other opening"
-unfoldable pub workb : List ℕ → ℕ → Opening → Record → Bool
+unfoldable pub workb : (tables : Cells) (entry : ℕ) → Opening → Record → Bool
 workb t i o r =
     allOf
     (eqb (r .owner) (userOf i)
@@ -42,8 +42,8 @@ workb t i o r =
     ∷ allBelow entries (λ j. eqb j i || not (eqb (openingAt t j .place) (o .place)))
     ∷ [])
 
-unfoldable pub sharesb : List ℕ → ℕ → Opening → Bool
-sharesb t i o = cond (eqb (o .place) 0) true (cond (eqb (o .permit) 0) (readb i o (recordFor t o)) (workb t i o (recordFor t o)))
+unfoldable pub besideRecordb : (tables : Cells) (entry : ℕ) → Opening → Bool
+besideRecordb t i o = cond (eqb (o .place) 0) true (cond (eqb (o .permit) 0) (readb i o (recordFor t o)) (workb t i o (recordFor t o)))
 
 -- "the values of pointers 2 to 7, where they exist, are 1 to the greatest end value": the work pointer always exists
 unfoldable pub pointersb : Opening → Bool
@@ -51,14 +51,14 @@ pointersb o = allOf (leb 1 (valueOf o 2) ∷ allBelow 6 (λ k. leb (valueOf o (2
 
 -- "its species, begin, end and number of held segments are as for records; the values of pointers ..; all places and segment numbers are in
 -- range"
-unfoldable pub openb : List ℕ → ℕ → Opening → Bool
+unfoldable pub openb : (tables : Cells) (entry : ℕ) → Opening → Bool
 openb t i o =
     allOf
     (isOpen o
     ∷ leb (o .permit) 1
     ∷ linkb t o
-    ∷ sharesb t i o
-    ∷ titleb (o .name)
+    ∷ besideRecordb t i o
+    ∷ openingNameb (o .name)
     ∷ extentb (o .species) (valueOf o 0) (valueOf o 1)
     ∷ pointersb o
     ∷ leb (o .place) places
@@ -77,10 +77,10 @@ closedb o =
     ∷ allBelow mostHeld (λ k. eqb (numberAt (o .segments) k) 0)
     ∷ [])
 
-unfoldable pub openingb : List ℕ → ℕ → Bool
+unfoldable pub openingb : (tables : Cells) (entry : ℕ) → Bool
 openingb t i =
     let o = openingAt t i in
     cond (eqb (o .opened) 0) (closedb o) (openb t i o)
 
-unfoldable pub openingsb : List ℕ → Bool
+unfoldable pub openingsb : (tables : Cells) → Bool
 openingsb t = allBelow entries (openingb t)

@@ -8,7 +8,7 @@ use Rattle.combine.specs.Below.{allBelow}
 use Rattle.combine.specs.Rows.{allOf}
 use Rattle.combine.specs.Lists.{same}
 use Rattle.placing.specs.declared.Segment.{Segment}
-use Rattle.placing.specs.Sizes.{greatestUser, places, mostHeld, greatestEnd, greatestSpecies}
+use Rattle.placing.specs.Sizes.{Cells, greatestUser, places, mostHeld, greatestEnd, greatestSpecies}
 use Rattle.placing.specs.Placing.{heldOf}
 use Rattle.names.specs.Names.{nameb}
 use Rattle.tables.specs.declared.Record.{Record}
@@ -16,14 +16,14 @@ use Rattle.tables.specs.Layout.{recordAt}
 use Rattle.tables.specs.Fields.{isUsed, numberAt}
 
 -- "species 0 to 5; 1 <= begin <= end; at most 32 segments held", and the end at most the greatest
-unfoldable pub extentb : ℕ → ℕ → ℕ → Bool
+unfoldable pub extentb : (species begin end : ℕ) → Bool
 extentb s b e = allOf (leb s greatestSpecies ∷ leb 1 b ∷ leb b e ∷ leb e greatestEnd ∷ leb (heldOf s b e) mostHeld ∷ [])
 
 -- "segment numbers in range"; "Unused list places are zero"
-unfoldable pub listb : ℕ → ℕ → List Segment → Bool
+unfoldable pub listb : (segments held : ℕ) → List Segment → Bool
 listb n held l = allOf (allBelow held (λ k. ltb (numberAt l k) n) ∷ allBelow (mostHeld - held) (λ k. eqb (numberAt l (held + k)) 0) ∷ [])
 
-unfoldable pub usedb : ℕ → Record → Bool
+unfoldable pub usedb : (segments : ℕ) → Record → Bool
 usedb n r =
     allOf
     (isUsed r
@@ -47,7 +47,7 @@ unusedb r =
     ∷ allBelow mostHeld (λ k. eqb (numberAt (r .segments) k) 0)
     ∷ [])
 
-unfoldable pub recordb : ℕ → Record → Bool
+unfoldable pub recordb : (segments : ℕ) → Record → Bool
 recordb n r = cond (eqb (r .used) 0) (unusedb r) (usedb n r)
 
 -- "No two records of one owner have one name; no two public records have one name."
@@ -60,8 +60,8 @@ clash r q =
     ∷ [])
 
 -- the record at place p, if it is used, has no clash with one before it
-unfoldable pub aloneb : List ℕ → ℕ → Bool
-aloneb t p = cond (isUsed (recordAt t p)) (allBelow p (λ q. not (clash (recordAt t p) (recordAt t q)))) true
+unfoldable pub noClashb : (tables : Cells) (place : ℕ) → Bool
+noClashb t p = cond (isUsed (recordAt t p)) (allBelow p (λ q. not (clash (recordAt t p) (recordAt t q)))) true
 
-unfoldable pub recordsb : List ℕ → ℕ → Bool
-recordsb t n = allOf (allBelow places (λ p. recordb n (recordAt t p)) ∷ allBelow places (aloneb t) ∷ [])
+unfoldable pub recordsb : (tables : Cells) (segments : ℕ) → Bool
+recordsb t n = allOf (allBelow places (λ p. recordb n (recordAt t p)) ∷ allBelow places (noClashb t) ∷ [])

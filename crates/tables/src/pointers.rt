@@ -5,10 +5,10 @@ ghost use Rattle.combine.specs.Verdict.{onDone};
 ghost use Rattle.combine.specs.Outcome.{outcomeOf, settle};
 ghost use Rattle.answers.specs.Said.{said};
 ghost use Rattle.placing.specs.Placing.{position};
-ghost use Rattle.rules.specs.Access.{pointing, deleting, renaming};
+ghost use Rattle.rules.specs.Access.{newPointerRule, deletePointerRule, renameRule};
 ghost use Rattle.tables.specs.Fields.{valueOf};
 ghost use Rattle.tables.specs.Handles.{handleIn, pointed, carried};
-ghost use Rattle.tables.specs.Pointers.{lowestFree};
+ghost use Rattle.tables.specs.Pointers.{lowestFreePointer};
 use crate::Answered;
 use crate::Opening;
 use answers::Answer;
@@ -48,7 +48,7 @@ impl Opening {
 
     // The lowest name of an own pointer that is free; 8, where none is.
     fn free_pointer(self) -> u32
-        ensures { λ r. ⌜ r ≡ lowestFree self ⌝ }
+        ensures { λ r. ⌜ r ≡ lowestFreePointer self ⌝ }
     {
         let mut pointer = 3;
         while pointer < 8 {
@@ -62,7 +62,7 @@ impl Opening {
 
     // "A new own pointer takes the lowest free name, which is the answer, and the value of a given pointer."
     pub fn new_pointer(self, pointer: u32) -> Answered
-        ensures { λ r. ⌜ outcomeOf (said (r .answer)) (r .opening) ≡ settle self (onDone (carried self) (pointing pointer (handleIn self))) ⌝ }
+        ensures { λ r. ⌜ outcomeOf (said (r .answer)) (r .opening) ≡ settle self (onDone (carried self) (newPointerRule pointer (handleIn self))) ⌝ }
     {
         let value = self.value(pointer);
         if value == 0 {
@@ -87,7 +87,7 @@ impl Opening {
 
     // "Only 3 to 7 can be deleted."
     pub fn delete_pointer(self, pointer: u32) -> Answered
-        ensures { λ r. ⌜ outcomeOf (said (r .answer)) (r .opening) ≡ settle self (onDone (carried self) (deleting pointer (handleIn self))) ⌝ }
+        ensures { λ r. ⌜ outcomeOf (said (r .answer)) (r .opening) ≡ settle self (onDone (carried self) (deletePointerRule pointer (handleIn self))) ⌝ }
     {
         if self.value(pointer) == 0 {
             return Answered {
@@ -110,7 +110,7 @@ impl Opening {
 
     // "Renaming (needs the work permit) changes the opening's name only."
     pub fn rename(mut self, name: [u32; 12]) -> Answered
-        ensures { λ r. ⌜ outcomeOf (said (r .answer)) (r .opening) ≡ settle self (onDone (carried self) (renaming name (handleIn self))) ⌝ }
+        ensures { λ r. ⌜ outcomeOf (said (r .answer)) (r .opening) ≡ settle self (onDone (carried self) (renameRule name (handleIn self))) ⌝ }
     {
         if self.permit != 1 {
             return Answered {

@@ -11,7 +11,7 @@ use Rattle.tables.specs.declared.Record.{Record}
 use Rattle.tables.specs.declared.Opening.{Opening}
 use Rattle.tables.specs.Layout.{segmentsIn, recordAt}
 use Rattle.tables.specs.Fields.{recordFor}
-use Rattle.tables.specs.RecordFacts.{SoundRecord}
+use Rattle.tables.specs.laws.RecordFacts.{SoundRecord}
 use Rattle.opening_laws.specs.Shared.{listsNumber, sharesNumber, shares-none, shares-listed}
 use Rattle.call_next_prev.specs.Known.{Known}
 

@@ -6,7 +6,8 @@ use mathlib.Core.List.{List}
 use native.Mathlib.Omega.{arith}
 use lib.Dec.{leb, ltb, eqb}
 use borrow.Author.Tests.{eq-eqb, ne-eqb, le-leb, lt-leb, lt-ltb, le-ltb}
-use Rattle.combine.specs.Verdict.{Verdict, done, refuse_when_else_, refused-here, went-on}
+use Rattle.combine.specs.Verdict.{Verdict, done, refuse_when_else_}
+use Rattle.combine.specs.laws.Verdict.{refused-here, went-on}
 use Rattle.answers.specs.declared.Refusal.the-variants.{Pointer, Permit, Below, Beyond, Positions, Segments}
 use Rattle.placing.specs.declared.Segment.{Segment}
 use Rattle.placing.specs.declared.Position.{Position}
@@ -14,13 +15,13 @@ use Rattle.placing.specs.Sizes.{mostHeld, greatestEnd}
 use Rattle.placing.specs.Placing.{position, heldOf}
 use Rattle.rules.specs.Headings.{moved}
 use Rattle.rules.specs.Effects.{firstLeaves, stores, plain, Use, does}
-use Rattle.rules.specs.Access.{writing}
+use Rattle.rules.specs.Access.{writeRule}
 use Rattle.segments.specs.Free.{hasRoom}
 use Rattle.segments.specs.Deeds.{takesAt}
 use Rattle.tables.specs.declared.Opening.{Opening}
 use Rattle.tables.specs.Fields.{valueOf}
 use Rattle.tables.specs.Handles.{handleIn, pointed}
-use Rattle.tables.specs.Pointers.{value-in, value-some}
+use Rattle.tables.specs.laws.Pointers.{value-in, value-some}
 use Rattle.cells.specs.Says.{openingIn, houseOf}
 use Rattle.opening_laws.specs.Held.{place-within, place-at-end, held-behind}
 use Rattle.opening_steps.specs.Spans.{Spans, end-spans, end-holds}
@@ -113,7 +114,7 @@ module _ (t : List ℕ) (o : Opening) (p : ℕ) where
   tests n v b e = refuse 4 when eqb v 0 else refuse 5 when not (eqb (o .permit) 1) else refuse 6 when ltb v b else rest n v b e
 
   tests-are : (n v b e : ℕ) → v ≡ valueOf o p → b ≡ valueOf o 0 → e ≡ valueOf o 1 → writeVerdict t o p n ≡ tests n v b e
-  unfolding writeVerdict writing tests rest
+  unfolding writeVerdict writeRule tests rest
   tests-are n v b e ev eb ee = λ i. tests n ((value-in o p ∙ sym ev) i) ((value-in o 0 ∙ sym eb) i) ((value-in o 1 ∙ sym ee) i)
 
   module _ (v : ℕ) (ev : v ≡ valueOf o p) where

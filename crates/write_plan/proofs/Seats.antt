@@ -7,12 +7,12 @@ use native.Mathlib.Omega.{arith}
 use lib.Dec.{leb, ltb}
 use lib.ListN.{getD}
 use borrow.Author.Tests.{le-leb, lt-leb, lt-ltb, le-ltb, not-true, not-false}
-use Rattle.combine.specs.Below.{or-left}
-use Rattle.combine.specs.Verdict.{refused-here, went-on}
+use Rattle.combine.specs.laws.Below.{or-left}
+use Rattle.combine.specs.laws.Verdict.{refused-here, went-on}
 use Rattle.answers.specs.declared.Refusal.the-variants.{Room}
 use Rattle.placing.specs.declared.Segment.{Segment}
 use Rattle.placing.specs.declared.Position.{Position}
-use Rattle.placing.specs.Placing.{segment, position, heldOf, listPlace}
+use Rattle.placing.specs.Placing.{segment, position, heldOf, slotOf}
 use Rattle.store.specs.Store.{zeroed, copied}
 use Rattle.segments.specs.Free.{SegmentOpening, SegmentHouse, lowestFree, hasRoom}
 use Rattle.segments.specs.Deeds.{lacks, segmentAt, sharesAt, takesAt, target, prepared}
@@ -55,9 +55,9 @@ module _ (t : List ℕ) (o : Opening) (p : ℕ) (w : Known t o) (z : Seats o p) 
       let b : hasRoom (houseOf t) ≡ false = room-is t ∙ le-ltb (lowestFree (houseOf t)) (segmentsIn t) l in
       record { says = λ n. refused-here 9 _ _ (rw (a, b) refl) }
 
-  module _ (v : ℕ) (ev : v ≡ valueOf o p) (x : Position) (ex : x ≡ position v) (k : ℕ) (kx : k ≡ listPlace (o .species) (valueOf o 0) (x .0)) where
-    ek : k ≡ listPlace (o .species) (valueOf o 0) (valueOf o p)
-    ek = kx ∙ ap (λ (j : ℕ). listPlace (o .species) (valueOf o 0) j) (ap positionNumber ex ∙ ev)
+  module _ (v : ℕ) (ev : v ≡ valueOf o p) (x : Position) (ex : x ≡ position v) (k : ℕ) (kx : k ≡ slotOf (o .species) (valueOf o 0) (x .0)) where
+    ek : k ≡ slotOf (o .species) (valueOf o 0) (valueOf o p)
+    ek = kx ∙ ap (λ (j : ℕ). slotOf (o .species) (valueOf o 0) j) (ap positionNumber ex ∙ ev)
 
     -- the element goes to g
     into : (g : Segment) → g ≡ segment (target (houseOf t) (openingIn o) (valueOf o p)) → g .0 < segmentsIn t → (takes && not (hasRoom (houseOf t))) ≡ false
@@ -157,10 +157,10 @@ module _ (t : List ℕ) (o : Opening) (p : ℕ) (w : Known t o) (z : Seats o p) 
               }
 
 -- the place is one of the list
-pub seat-index : (t : List ℕ) (o : Opening) (p : ℕ) → Seats o p → (v : ℕ) → v ≡ valueOf o p → (x : Position) → x ≡ position v → (k : ℕ) → k ≡ listPlace (o .species) (valueOf o 0) (x .0) → k < 32
+pub seat-index : (t : List ℕ) (o : Opening) (p : ℕ) → Seats o p → (v : ℕ) → v ≡ valueOf o p → (x : Position) → x ≡ position v → (k : ℕ) → k ≡ slotOf (o .species) (valueOf o 0) (x .0) → k < 32
 seat-index t o p z v ev x ex k ek =
     let l = z .small in
-    let e : k ≡ listPlace (o .species) (valueOf o 0) (valueOf o p) = ek ∙ ap (λ (j : ℕ). listPlace (o .species) (valueOf o 0) j) (ap positionNumber ex ∙ ev) in
+    let e : k ≡ slotOf (o .species) (valueOf o 0) (valueOf o p) = ek ∙ ap (λ (j : ℕ). slotOf (o .species) (valueOf o 0) j) (ap positionNumber ex ∙ ev) in
     omega arith
 
 pub known-spans : (t : List ℕ) (o : Opening) → Known t o → Spans o

@@ -9,11 +9,11 @@ use Rattle.combine.specs.Verdict.{Verdict, refused, done, refuse_when_else_}
 use Rattle.answers.specs.Said.{refusalNumber}
 use Rattle.placing.specs.declared.Segment.{Segment}
 use Rattle.placing.specs.Sizes.{mostHeld, greatestEnd}
-use Rattle.placing.specs.Placing.{segment, heldOf, listPlace}
+use Rattle.placing.specs.Placing.{segment, heldOf, slotOf}
 use Rattle.store.specs.Store.{zeroed, copied}
 use Rattle.rules.specs.Headings.{moved}
 use Rattle.rules.specs.Effects.{firstLeaves, stores, plain, Use, does}
-use Rattle.rules.specs.Access.{writing}
+use Rattle.rules.specs.Access.{writeRule}
 use Rattle.segments.specs.Free.{hasRoom}
 use Rattle.segments.specs.Deeds.{takesAt, target, prepared}
 use Rattle.tables.specs.declared.Opening.{Opening}
@@ -29,14 +29,14 @@ pub record Seats (o : Opening) (p : ℕ) : Type 0 where
   pub known : p < 8
   pub low : valueOf o 0 ≤ valueOf o p
   pub high : valueOf o p ≤ greatestEnd
-  pub listed : listPlace (o .species) (valueOf o 0) (valueOf o p) ≤ heldOf (o .species) (valueOf o 0) (valueOf o 1)
-  pub small : listPlace (o .species) (valueOf o 0) (valueOf o p) < mostHeld
+  pub listed : slotOf (o .species) (valueOf o 0) (valueOf o p) ≤ heldOf (o .species) (valueOf o 0) (valueOf o 1)
+  pub small : slotOf (o .species) (valueOf o 0) (valueOf o p) < mostHeld
 
 -- ---- the verdict: "for a pointer call 4, 5, 6, 7, 10, 8, 9", and its last parts
 
 -- the write of n through pointer p
 unfoldable pub writeVerdict : List ℕ → Opening → ℕ → ℕ → Verdict Use
-writeVerdict t o p n = writing p n (takesAt (houseOf t .records) (openingIn o)) (hasRoom (houseOf t)) (handleIn o)
+writeVerdict t o p n = writeRule p n (takesAt (houseOf t .records) (openingIn o)) (hasRoom (houseOf t)) (handleIn o)
 
 -- "no room: a segment needed, none free" is 9
 unfoldable pub seatVerdict : List ℕ → Opening → ℕ → ℕ → Verdict Use
@@ -58,7 +58,7 @@ appendVerdict t o n =
 -- the element goes to segment g, which is at place k of the list then
 pub record Stores (t : List ℕ) (o : Opening) (p : ℕ) (verdict : ℕ → Verdict Use) (k : ℕ) (g : Segment) : Type 0 where
   pub seats : Seats o p
-  pub place : k ≡ listPlace (o .species) (valueOf o 0) (valueOf o p)
+  pub place : k ≡ slotOf (o .species) (valueOf o 0) (valueOf o p)
   pub which : g ≡ segment (target (houseOf t) (openingIn o) (valueOf o p))
   pub range : g .0 < segmentsIn t
   pub told : (n : ℕ) → verdict n ≡ done (does (plain 0) (moved (handleIn o) p (valueOf o p + 1)) (stores (valueOf o p) n))
@@ -73,8 +73,8 @@ pub record Drops (o : Opening) (p : ℕ) (verdict : ℕ → Verdict Use) : Type 
   pub told : (n : ℕ) → verdict n ≡ done (does (plain 0) (moved (handleIn o) 0 (valueOf o 0 + 1)) firstLeaves)
 
 pub record Puts (t : List ℕ) (o : Opening) (p : ℕ) (verdict : ℕ → Verdict Use) (g : Segment) : Type 0 where
-  pub into : Stores t o p verdict (listPlace (o .species) (valueOf o 0) (valueOf o p)) g
-  pub there : getD (o .segments) (listPlace (o .species) (valueOf o 0) (valueOf o p)) (segment 0) ≡ g
+  pub into : Stores t o p verdict (slotOf (o .species) (valueOf o 0) (valueOf o p)) g
+  pub there : getD (o .segments) (slotOf (o .species) (valueOf o 0) (valueOf o p)) (segment 0) ≡ g
   pub cells : (s : List ℕ) → preparedFor t o p s ≡ s
 
 pub record Copies (t : List ℕ) (o : Opening) (p : ℕ) (verdict : ℕ → Verdict Use) (k : ℕ) (f g : Segment) : Type 0 where

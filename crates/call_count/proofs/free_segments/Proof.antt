@@ -1,7 +1,7 @@
 -- `counting::free_segments` meets its contract. Assumes nothing.
 use borrow.Author.Needs.{needs}
-use Rattle.combine.specs.Below.{was-true}
-use Rattle.tables.specs.Sound.{ranged-of}
+use Rattle.combine.specs.laws.Below.{was-true}
+use Rattle.tables.specs.laws.Sound.{ranged-of}
 use Rattle.call_count.proofs.Laws.{counts}
 use Rattle.call_count.proofs.free_segments.Statement.{statement}
 use Rattle.call_count.proofs.free_segments.Tie as tie

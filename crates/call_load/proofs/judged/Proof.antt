@@ -4,7 +4,7 @@ use mathlib.Core.Path.{sym, ap, _∙_}
 use denote.Ref.{now}
 use borrow.Author.Needs.{needs}
 use lib.ListN.{length, length-replicate}
-use Rattle.combine.specs.Below.{was-true, was-false}
+use Rattle.combine.specs.laws.Below.{was-true, was-false}
 use Rattle.combine.specs.Lists.{part}
 use Rattle.placing.specs.Sizes.{tablesLength}
 use Rattle.call_load.proofs.Laws.{other-form, not-zero, unsound, loaded}

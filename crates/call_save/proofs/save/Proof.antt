@@ -1,8 +1,8 @@
 -- `saving::save` meets its contract. Assumes nothing.
 use denote.Ref.{now}
 use borrow.Author.Needs.{needs}
-use Rattle.combine.specs.Below.{was-true, was-false}
-use Rattle.tables.specs.Sound.{ranged-of}
+use Rattle.combine.specs.laws.Below.{was-true, was-false}
+use Rattle.tables.specs.laws.Sound.{ranged-of}
 use Rattle.call_save.proofs.Laws.{unsound, wrong-length, written}
 use Rattle.call_save.proofs.save.Statement.{statement}
 use Rattle.call_save.proofs.save.Tie as tie

@@ -1,7 +1,7 @@
 -- `lookup::fits` meets its contract. Assumes nothing.
 use mathlib.Core.Path.{_∙_}
 use denote.Ref.{now}
-use Rattle.combine.specs.Below.{was-false, was-true}
+use Rattle.combine.specs.laws.Below.{was-false, was-true}
 use Rattle.catalogue_search.proofs.Fitting.{not-used, not-concerned, as-named}
 use borrow.Author.Needs.{needs}
 use Rattle.catalogue_search.proofs.fits.Statement.{statement}

@@ -2,7 +2,8 @@
 use Prim.Native.Nat.{_≤_, _-_}
 use mathlib.Core.Path.{_≡_}
 use native.Mathlib.Omega.{arith}
-use Rattle.combine.specs.First.{firstBelow, first-zero, first-more}
+use Rattle.combine.specs.First.{firstBelow}
+use Rattle.combine.specs.laws.First.{first-zero, first-more}
 use Rattle.placing.specs.Sizes.{places}
 use mathlib.Core.Bool.{not}
 use Rattle.tables.specs.Layout.{recordAt}

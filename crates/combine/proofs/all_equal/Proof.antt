@@ -6,7 +6,8 @@ use native.Mathlib.Omega.{arith}
 use borrow.Author.Tests.{eq-eqb, ne-eqb}
 use lib.ListN.{length, getD}
 use lib.Dec.{eqb}
-use Rattle.combine.specs.Below.{allBelow, all-zero, all-more, loop-true, loop-false}
+use Rattle.combine.specs.Below.{allBelow}
+use Rattle.combine.specs.laws.Below.{all-zero, all-more, loop-true, loop-false}
 use Rattle.combine.proofs.all_equal.Statement.{statement}
 use Rattle.combine.proofs.all_equal.Tie as tie
 

@@ -5,7 +5,8 @@ use native.Mathlib.Omega.{arith}
 use denote.Ref.{now}
 use lib.ListN.{length, getD}
 use lib.Dec.{eqb}
-use Rattle.combine.specs.Below.{allBelow, all-zero}
+use Rattle.combine.specs.Below.{allBelow}
+use Rattle.combine.specs.laws.Below.{all-zero}
 use Rattle.combine.proofs.Turns.{gather-turn}
 use Rattle.combine.proofs.all_zero.Statement.{statement}
 use Rattle.combine.proofs.all_zero.Tie as tie

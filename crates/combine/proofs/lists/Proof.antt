@@ -7,8 +7,9 @@ use denote.Ref.{now}
 use borrow.Author.Needs.{needs}
 use lib.Dec.{eqb}
 use lib.ListN.{length, getD}
-use Rattle.combine.specs.Below.{allBelow, all-zero}
-use Rattle.combine.specs.Any.{byte-few}
+use Rattle.combine.specs.Below.{allBelow}
+use Rattle.combine.specs.laws.Below.{all-zero}
+use Rattle.combine.specs.laws.Any.{byte-few}
 use Rattle.combine.proofs.Hits.{hits-turn, hits-done}
 use Rattle.combine.proofs.lists.Statement.{statement}
 use Rattle.combine.proofs.lists.Tie as tie

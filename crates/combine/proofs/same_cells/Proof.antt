@@ -7,8 +7,9 @@ use denote.Ref.{now}
 use borrow.Author.Tests.{eq-eqb, ne-eqb}
 use lib.ListN.{length, getD}
 use lib.Dec.{eqb}
-use Rattle.combine.specs.Below.{allBelow, all-zero, all-more, loop-true, loop-false}
-use Rattle.combine.specs.Same.{same-all}
+use Rattle.combine.specs.Below.{allBelow}
+use Rattle.combine.specs.laws.Below.{all-zero, all-more, loop-true, loop-false}
+use Rattle.combine.specs.laws.Same.{same-all}
 use Rattle.combine.proofs.same_cells.Statement.{statement}
 use Rattle.combine.proofs.same_cells.Tie as tie
 

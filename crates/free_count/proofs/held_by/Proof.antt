@@ -4,7 +4,7 @@ use native.Mathlib.Omega.{arith}
 use borrow.Author.Tests.{eq-eqb, ne-eqb}
 use borrow.Author.Needs.{needs}
 use Rattle.placing.specs.Placing.{heldOf}
-use Rattle.tables.specs.ExtentFacts.{SoundExtent}
+use Rattle.tables.specs.laws.ExtentFacts.{SoundExtent}
 use Rattle.free_count.proofs.held_by.Statement.{statement}
 use Rattle.free_count.proofs.held_by.Tie as tie
 

@@ -5,7 +5,7 @@ use native.Mathlib.Omega.{arith}
 use denote.Ref.{now}
 use borrow.Author.Needs.{needs}
 use lib.ListN.{length, getD, set, length-set}
-use Rattle.combine.specs.Any.{not-in}
+use Rattle.combine.specs.laws.Any.{not-in}
 use Rattle.free_count.proofs.Marks.{Unmarked, marks-start, marks-turn, marks-done, notAt, mark-one}
 use Rattle.free_count.proofs.mark_row.Statement.{statement}
 use Rattle.free_count.proofs.mark_row.Tie as tie

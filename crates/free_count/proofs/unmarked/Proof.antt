@@ -9,7 +9,7 @@ use borrow.Author.Needs.{needs}
 use lib.Dec.{eqb}
 use lib.ListN.{getD}
 use Rattle.combine.specs.Below.{countBelow}
-use Rattle.combine.specs.Any.{byte-few}
+use Rattle.combine.specs.laws.Any.{byte-few}
 use Rattle.free_count.proofs.Counts.{count-start, count-turn}
 use Rattle.free_count.proofs.unmarked.Statement.{statement}
 use Rattle.free_count.proofs.unmarked.Tie as tie

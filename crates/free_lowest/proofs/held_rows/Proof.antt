@@ -5,7 +5,7 @@ use native.Mathlib.Omega.{arith}
 use denote.Ref.{now}
 use lib.Dec.{ltb}
 use lib.ListN.{length, length-set}
-use Rattle.combine.specs.Any.{byte-few}
+use Rattle.combine.specs.laws.Any.{byte-few}
 use Rattle.free_lowest.specs.Held.{HeldRows}
 use Rattle.free_lowest.proofs.Search.{rows-start, rows-turn}
 use Rattle.free_lowest.proofs.held_rows.Statement.{statement}

@@ -6,7 +6,7 @@ use denote.Ref.{now}
 use borrow.Author.Needs.{needs}
 use lib.Dec.{eqb}
 use lib.ListN.{length, getD, drop}
-use Rattle.combine.specs.Any.{byte-few}
+use Rattle.combine.specs.laws.Any.{byte-few}
 use Rattle.free_lowest.specs.Run.{runEnd}
 use Rattle.free_lowest.proofs.Runs.{run-turn, run-done}
 use Rattle.free_lowest.proofs.run_end.Statement.{statement}

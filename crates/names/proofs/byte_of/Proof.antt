@@ -2,7 +2,7 @@
 use Prim.Native.Nat.{ℕ, _-_, _+_}
 use mathlib.Core.Path.{ap, _∙_}
 use native.Mathlib.Omega.{arith}
-use Rattle.names.specs.Symbols.{byte-space, byte-tab-newline, byte-digit, byte-letter, byte-ending}
+use Rattle.names.specs.laws.Symbols.{byte-space, byte-tab-newline, byte-digit, byte-letter, byte-ending}
 use Rattle.names.specs.declared.Byte.the-variants.{Symbol}
 use borrow.Author.Needs.{needs}
 use Rattle.names.proofs.byte_of.Statement.{statement}

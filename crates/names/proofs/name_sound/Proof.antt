@@ -6,8 +6,9 @@ use native.Mathlib.Omega.{arith}
 use denote.Ref.{now}
 use borrow.Author.Tests.{le-leb, lt-leb}
 use lib.ListN.{getD}
-use Rattle.combine.specs.Below.{allBelow, all-zero, all-more, loop-true, loop-false, was-true, was-false}
-use Rattle.combine.specs.Rows.{one-bad, all-good}
+use Rattle.combine.specs.Below.{allBelow}
+use Rattle.combine.specs.laws.Below.{all-zero, all-more, loop-true, loop-false, was-true, was-false}
+use Rattle.combine.specs.laws.Rows.{one-bad, all-good}
 use Rattle.names.specs.Names.{follows, nameb}
 use Rattle.names.proofs.Within.{within, follows-within}
 use Rattle.names.proofs.name_sound.Statement.{statement}

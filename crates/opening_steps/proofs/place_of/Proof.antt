@@ -10,11 +10,11 @@ value-requires c κs = search needs
 of-requires : tie.Need-of-requires
 of-requires c κs = search needs
 
-list-place-requires : tie.Need-list-place-requires
-list-place-requires c κs = (omega (arith, number-is), omega (arith, number-is), search needs)
+slot-requires : tie.Need-slot-requires
+slot-requires c κs = (omega (arith, number-is), omega (arith, number-is), search needs)
 
 returns : tie.Need-returns
 returns c = search counts
 
 pub place-of-spec : {M : Type 1} → statement M
-place-of-spec = tie.close (tie.spec value-requires of-requires list-place-requires returns)
+place-of-spec = tie.close (tie.spec value-requires of-requires slot-requires returns)

@@ -2,7 +2,7 @@
 use Prim.Native.Nat.{ℕ, _<_, _^_}
 use mathlib.Core.Path.{subst, sym}
 use borrow.Author.Needs.{needs}
-use Rattle.packing.specs.Fields.{bits-put-lt}
+use Rattle.packing.specs.laws.Fields.{bits-put-lt}
 use Rattle.packing.proofs.Shifts.{put-code}
 use Rattle.packing.proofs.put_bits.Statement.{statement}
 use Rattle.packing.proofs.put_bits.Tie as tie

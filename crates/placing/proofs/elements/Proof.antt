@@ -1,7 +1,7 @@
 -- `placing::elements` meets its contract. Assumes nothing.
 use mathlib.Core.Path.{refl}
 use Rattle.placing.specs.Sizes.{elementsOf}
-use Rattle.placing.specs.Sized.{elements-many}
+use Rattle.placing.specs.laws.Sized.{elements-many}
 use borrow.Author.Needs.{needs}
 use Rattle.placing.proofs.elements.Statement.{statement}
 use Rattle.placing.proofs.elements.Tie as tie

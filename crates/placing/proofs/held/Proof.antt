@@ -12,14 +12,14 @@ returns c = let a = c .before .args in let p = c .before .pre in held-none (a .s
 sub-result : tie.Need-sub-result
 sub-result c = search needs
 
-list-place-requires : tie.Need-list-place-requires
-list-place-requires c κs = search needs
+slot-requires : tie.Need-slot-requires
+slot-requires c κs = search needs
 
 add-result : tie.Need-add-result
-add-result c = let a = c .before .before .args in let p = c .before .before .pre in let m = place-fits (a .species) (p .0) (a .begin .0) (a .end .0 - 1) _ (omega arith) (c .list-place .ensures) in record { fits = m }
+add-result c = let a = c .before .before .args in let p = c .before .before .pre in let m = place-fits (a .species) (p .0) (a .begin .0) (a .end .0 - 1) _ (omega arith) (c .slot .ensures) in record { fits = m }
 
 returns-2 : tie.Need-returns-2
-returns-2 c = let a = c .before .before .args in let p = c .before .before .pre in held-some (a .species) (p .0) (a .begin .0) (a .end .0) _ (omega arith) (c .list-place .ensures)
+returns-2 c = let a = c .before .before .args in let p = c .before .before .pre in held-some (a .species) (p .0) (a .begin .0) (a .end .0) _ (omega arith) (c .slot .ensures)
 
 pub held-spec : {M : Type 1} → statement M
-held-spec = tie.close (tie.spec returns sub-result list-place-requires add-result returns-2)
+held-spec = tie.close (tie.spec returns sub-result slot-requires add-result returns-2)

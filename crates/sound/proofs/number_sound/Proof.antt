@@ -1,7 +1,7 @@
 -- `sound::number_sound` meets its contract. Assumes nothing.
 use mathlib.Core.Path.{refl}
 use borrow.Author.Tests.{le-leb, lt-leb}
-use Rattle.combine.specs.Rows.{one-bad, all-last}
+use Rattle.combine.specs.laws.Rows.{one-bad, all-last}
 use Rattle.tables.specs.Sound.{numberb}
 use borrow.Author.Needs.{needs}
 use Rattle.sound.proofs.number_sound.Statement.{statement}

@@ -1,7 +1,7 @@
 -- `sound::sound` meets its contract. Assumes nothing.
 use borrow.Author.Tests.{ne-eqb, leb-true}
-use Rattle.combine.specs.Below.{was-true, was-false}
-use Rattle.combine.specs.Rows.{one-bad, each-of}
+use Rattle.combine.specs.laws.Below.{was-true, was-false}
+use Rattle.combine.specs.laws.Rows.{one-bad, each-of}
 use Rattle.tables.specs.Sound.{numberb, soundb}
 use Rattle.sound.proofs.Order.{distinct-last}
 use borrow.Author.Needs.{needs}

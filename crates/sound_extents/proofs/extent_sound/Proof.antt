@@ -5,7 +5,7 @@ use native.Mathlib.Omega.{arith}
 use borrow.Author.Needs.{needs}
 use borrow.Author.Tests.{le-leb, lt-leb}
 use lib.Dec.{leb}
-use Rattle.combine.specs.Rows.{one-bad, all-last}
+use Rattle.combine.specs.laws.Rows.{one-bad, all-last}
 use Rattle.placing.specs.declared.Position.{Position}
 use Rattle.tables.specs.Records.{extentb}
 use Rattle.sound_extents.specs.Extent.{held-at}

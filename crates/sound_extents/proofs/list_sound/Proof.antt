@@ -2,8 +2,8 @@
 use mathlib.Core.Path.{_∙_}
 use denote.Ref.{now}
 use borrow.Author.Needs.{needs}
-use Rattle.combine.specs.Below.{was-true, was-false}
-use Rattle.combine.specs.Rows.{one-bad, all-last}
+use Rattle.combine.specs.laws.Below.{was-true, was-false}
+use Rattle.combine.specs.laws.Rows.{one-bad, all-last}
 use Rattle.tables.specs.Records.{listb}
 use Rattle.sound_extents.specs.Slices.{list-held, list-unused}
 use Rattle.sound_extents.proofs.list_sound.Statement.{statement}

@@ -1,7 +1,7 @@
 -- `distinct::mark_file` meets its contract. Assumes nothing.
 use Prim.Native.Nat.{_+_, _*_, _<_}
 use native.Mathlib.Omega.{arith}
-use Rattle.tables.specs.ExtentFacts.{stretch-below}
+use Rattle.tables.specs.laws.ExtentFacts.{stretch-below}
 use Rattle.sound_lists.proofs.Marking.{marked-as}
 use borrow.Author.Needs.{needs}
 use Rattle.sound_lists.proofs.mark_file.Statement.{statement}

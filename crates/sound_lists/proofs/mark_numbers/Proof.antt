@@ -1,7 +1,7 @@
 -- `distinct::mark_numbers` meets its contract: the numbers before `k` are marked. Assumes nothing.
 use Prim.Native.Nat.{_-_, _≤_}
 use native.Mathlib.Omega.{arith}
-use Rattle.combine.specs.Below.{was-true, was-false}
+use Rattle.combine.specs.laws.Below.{was-true, was-false}
 use Rattle.sound_lists.specs.Marks.{cellsFrom}
 use Rattle.sound_lists.proofs.Marking.{Marking, cell-number, marking-none, marking-more, marking-stops, marking-ends}
 use Rattle.sound_lists.proofs.mark_numbers.Statement.{statement}

@@ -5,7 +5,8 @@ use mathlib.Core.Bool.{true, not}
 use native.Mathlib.Omega.{arith}
 use denote.Ref.{now}
 use borrow.Author.Needs.{needs}
-use Rattle.combine.specs.Below.{allBelow, all-zero, all-more, loop-true, loop-false}
+use Rattle.combine.specs.Below.{allBelow}
+use Rattle.combine.specs.laws.Below.{all-zero, all-more, loop-true, loop-false}
 use Rattle.tables.specs.Layout.{recordAt}
 use Rattle.tables.specs.Records.{clash}
 use Rattle.sound_names.proofs.Places.{private-cell, alone-used}

@@ -3,7 +3,7 @@ use mathlib.Core.Path.{sym, ap, _∙_}
 use mathlib.Core.Bool.{not}
 use borrow.Author.Tests.{le-leb, lt-leb, eq-eqb, ne-eqb}
 use borrow.Author.Needs.{needs}
-use Rattle.combine.specs.Below.{bad-left, both, or-left, was-true, was-false}
+use Rattle.combine.specs.laws.Below.{bad-left, both, or-left, was-true, was-false}
 use Rattle.sound_names.specs.Keys.{apartb}
 use Rattle.sound_names.proofs.apart.Statement.{statement}
 use Rattle.sound_names.proofs.apart.Tie as tie

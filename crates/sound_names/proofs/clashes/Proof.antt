@@ -3,7 +3,7 @@ use mathlib.Core.Path.{sym, _∙_}
 use native.Mathlib.Omega.{arith}
 use denote.Ref.{now}
 use borrow.Author.Needs.{needs}
-use Rattle.tables.specs.Put.{record-shaped-at}
+use Rattle.tables.specs.laws.Put.{record-shaped-at}
 use Rattle.sound_names.specs.Keys.{kinb}
 use Rattle.sound_names.proofs.Names.{keys-differ, keys-same}
 use Rattle.sound_names.proofs.Rows.{row-at}

@@ -2,7 +2,7 @@
 use mathlib.Core.Path.{sym}
 use borrow.Author.Tests.{eq-eqb, ne-eqb}
 use borrow.Author.Needs.{needs}
-use Rattle.combine.specs.Below.{or-left}
+use Rattle.combine.specs.laws.Below.{or-left}
 use Rattle.tables.specs.Layout.{recordOf}
 use Rattle.sound_names.specs.Keys.{kinb}
 use Rattle.sound_names.proofs.kin.Statement.{statement}

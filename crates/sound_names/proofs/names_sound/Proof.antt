@@ -5,9 +5,10 @@ use mathlib.Core.Bool.{true}
 use native.Mathlib.Omega.{arith}
 use denote.Ref.{now}
 use borrow.Author.Needs.{needs}
-use Rattle.combine.specs.Below.{allBelow, all-zero, all-more, loop-true, loop-false, was-true, was-false}
+use Rattle.combine.specs.Below.{allBelow}
+use Rattle.combine.specs.laws.Below.{all-zero, all-more, loop-true, loop-false, was-true, was-false}
 use Rattle.tables.specs.declared.Record.{Record}
-use Rattle.tables.specs.Records.{aloneb}
+use Rattle.tables.specs.Records.{noClashb}
 use Rattle.sound_names.specs.Keys.{keyOf, Keyed}
 use Rattle.sound_names.proofs.Rows.{row-at, owner-cell, private-flag}
 use Rattle.sound_names.proofs.Places.{used-cell, is-used, alone-unused}
@@ -16,7 +17,7 @@ use Rattle.sound_names.proofs.names_sound.Statement.{statement}
 use Rattle.sound_names.proofs.names_sound.Tie as tie
 
 abbrev Inv-loop : tie.InvT-loop
-Inv-loop tables high₀ low₀ owned₀ public₀ p₀ high low owned public p = Keyed tables high low owned public p × Rest high low p × (allBelow p (aloneb tables) ≡ true)
+Inv-loop tables high₀ low₀ owned₀ public₀ p₀ high low owned public p = Keyed tables high low owned public p × Rest high low p × (allBelow p (noClashb tables) ≡ true)
 
 abbrev μ-loop : tie.MeasureT-loop
 μ-loop tables high₀ low₀ owned₀ public₀ p₀ high low owned public p = 64 - p

@@ -6,16 +6,16 @@ use native.Mathlib.Omega.{arith}
 use denote.Ref.{now}
 use borrow.Author.Needs.{needs}
 use lib.ListN.{getD}
-use Rattle.combine.specs.Below.{was-true, was-false}
+use Rattle.combine.specs.laws.Below.{was-true, was-false}
 use Rattle.combine.specs.Lists.{part}
-use Rattle.combine.specs.Parts.{length-part}
-use Rattle.combine.specs.Rows.{one-bad, all-last}
+use Rattle.combine.specs.laws.Parts.{length-part}
+use Rattle.combine.specs.laws.Rows.{one-bad, all-last}
 use Rattle.placing.specs.declared.Position.{Position}
 use Rattle.placing.specs.Placing.{heldOf, segment}
 use Rattle.tables.specs.Layout.{openingOf}
 use Rattle.tables.specs.Records.{extentb, listb}
 use Rattle.sound_extents.specs.Extent.{held-at}
-use Rattle.tables.specs.ExtentFacts.{extentb-facts}
+use Rattle.tables.specs.laws.ExtentFacts.{extentb-facts}
 use Rattle.sound_openings.specs.Cells.{extent-cells}
 use Rattle.sound_openings.specs.Opened.{contentb}
 use Rattle.sound_openings.proofs.content_sound.Statement.{statement}

@@ -3,9 +3,9 @@ use mathlib.Core.Path.{_∙_}
 use denote.Ref.{now}
 use borrow.Author.Needs.{needs}
 use borrow.Author.Tests.{eq-eqb, ne-eqb, le-leb, lt-leb}
-use Rattle.combine.specs.Below.{was-true, was-false}
+use Rattle.combine.specs.laws.Below.{was-true, was-false}
 use Rattle.combine.specs.Lists.{part}
-use Rattle.combine.specs.Rows.{one-bad, all-last}
+use Rattle.combine.specs.laws.Rows.{one-bad, all-last}
 use Rattle.tables.specs.Layout.{openingOf}
 use Rattle.sound_openings.specs.Opened.{openedb, opened-open}
 use Rattle.sound_openings.proofs.open_sound.Statement.{statement}

@@ -2,7 +2,7 @@
 use mathlib.Core.Path.{_∙_}
 use denote.Ref.{now}
 use borrow.Author.Needs.{needs}
-use Rattle.combine.specs.Below.{all-zero}
+use Rattle.combine.specs.laws.Below.{all-zero}
 use Rattle.sound_openings.proofs.Entries.{closed-entry, open-entry}
 use Rattle.sound_openings.proofs.opening_sound.Statement.{statement}
 use Rattle.sound_openings.proofs.opening_sound.Tie as tie

@@ -5,7 +5,7 @@ use denote.Ref.{now}
 use borrow.Author.Needs.{needs}
 use borrow.Author.Tests.{le-leb, lt-leb}
 use lib.Dec.{leb}
-use Rattle.combine.specs.Rows.{one-bad, all-last}
+use Rattle.combine.specs.laws.Rows.{one-bad, all-last}
 use Rattle.tables.specs.Openings.{pointersb}
 use Rattle.sound_openings.specs.Cells.{value-cell, values-below}
 use Rattle.sound_openings.proofs.pointers_sound.Statement.{statement}

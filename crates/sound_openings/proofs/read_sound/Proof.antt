@@ -4,9 +4,9 @@ use native.Mathlib.Omega.{arith}
 use denote.Ref.{now}
 use borrow.Author.Needs.{needs}
 use borrow.Author.Tests.{eq-eqb, ne-eqb}
-use Rattle.combine.specs.Below.{was-true, was-false}
+use Rattle.combine.specs.laws.Below.{was-true, was-false}
 use Rattle.combine.specs.Lists.{part}
-use Rattle.combine.specs.Rows.{one-bad, all-last}
+use Rattle.combine.specs.laws.Rows.{one-bad, all-last}
 use Rattle.tables.specs.Layout.{recordOf, openingOf}
 use Rattle.tables.specs.Openings.{readb}
 use Rattle.sound_openings.specs.Cells.{value-test, same-numbers}

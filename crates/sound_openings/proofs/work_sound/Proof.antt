@@ -2,7 +2,7 @@
 use native.Mathlib.Omega.{arith}
 use borrow.Author.Needs.{needs}
 use borrow.Author.Tests.{eq-eqb, ne-eqb}
-use Rattle.combine.specs.Rows.{one-bad, all-last}
+use Rattle.combine.specs.laws.Rows.{one-bad, all-last}
 use Rattle.tables.specs.Layout.{recordOf, openingOf}
 use Rattle.tables.specs.Openings.{workb}
 use Rattle.sound_openings.proofs.work_sound.Statement.{statement}

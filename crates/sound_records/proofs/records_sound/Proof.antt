@@ -1,11 +1,11 @@
 -- `records::records_sound` meets its contract: names are compared where each record is sound. Assumes nothing.
 use denote.Ref.{now}
 use borrow.Author.Needs.{needs}
-use Rattle.combine.specs.Below.{all-at, was-true, was-false}
-use Rattle.combine.specs.Rows.{one-bad, all-last}
+use Rattle.combine.specs.laws.Below.{all-at, was-true, was-false}
+use Rattle.combine.specs.laws.Rows.{one-bad, all-last}
 use Rattle.placing.specs.Sizes.{places}
 use Rattle.tables.specs.Layout.{recordAt}
-use Rattle.tables.specs.Put.{record-shaped-at}
+use Rattle.tables.specs.laws.Put.{record-shaped-at}
 use Rattle.tables.specs.Records.{recordsb}
 use Rattle.sound_records.proofs.Spelling.{sound-spelled}
 use Rattle.sound_records.proofs.records_sound.Statement.{statement}

@@ -5,16 +5,16 @@ use native.Mathlib.Omega.{arith}
 use denote.Ref.{now}
 use borrow.Author.Tests.{eq-eqb, ne-eqb, le-leb, lt-leb}
 use borrow.Author.Needs.{needs}
-use Rattle.combine.specs.Below.{was-true, was-false}
-use Rattle.combine.specs.Rows.{one-bad, all-last}
+use Rattle.combine.specs.laws.Below.{was-true, was-false}
+use Rattle.combine.specs.laws.Rows.{one-bad, all-last}
 use Rattle.combine.specs.Lists.{part}
-use Rattle.combine.specs.Parts.{length-part}
+use Rattle.combine.specs.laws.Parts.{length-part}
 use Rattle.placing.specs.declared.Position.{Position}
 use Rattle.placing.specs.Placing.{segment}
 use Rattle.tables.specs.Layout.{recordOf}
 use Rattle.tables.specs.Records.{usedb, listb}
 use Rattle.sound_extents.specs.Extent.{held-at}
-use Rattle.tables.specs.ExtentFacts.{extentb-facts}
+use Rattle.tables.specs.laws.ExtentFacts.{extentb-facts}
 use Rattle.sound_records.proofs.used_sound.Statement.{statement}
 use Rattle.sound_records.proofs.used_sound.Tie as tie
 

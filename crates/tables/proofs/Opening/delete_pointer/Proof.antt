@@ -1,10 +1,10 @@
 -- `tables::Opening::delete_pointer` meets its contract. Assumes nothing.
 use mathlib.Core.Path.{_≡_, sym, ap, _∙_}
 use lib.ListN.{length}
-use Rattle.tables.specs.Lengths.{unmapped}
+use Rattle.tables.specs.laws.Lengths.{unmapped}
 use Rattle.tables.proofs.Outcomes.{delete-none, delete-standard, delete-made}
 use Rattle.tables.specs.Handles.{pointed}
-use Rattle.tables.specs.Pointers.{value-some}
+use Rattle.tables.specs.laws.Pointers.{value-some}
 use borrow.Author.Needs.{needs}
 use Rattle.tables.proofs.Opening.delete_pointer.Statement.{statement}
 use Rattle.tables.proofs.Opening.delete_pointer.Tie as tie

@@ -4,20 +4,20 @@ use mathlib.Core.Path.{_≡_, refl, sym, _∙_}
 use native.Mathlib.Omega.{arith}
 use borrow.Author.Needs.{needs}
 use lib.ListN.{length}
-use Rattle.tables.specs.Pointers.{lowestFree}
-use Rattle.tables.specs.Lengths.{unmapped}
+use Rattle.tables.specs.Pointers.{lowestFreePointer}
+use Rattle.tables.specs.laws.Lengths.{unmapped}
 use Rattle.tables.proofs.First.{freeFrom, free-here, free-next, free-end}
 use Rattle.tables.proofs.Opening.free_pointer.Statement.{statement}
 use Rattle.tables.proofs.Opening.free_pointer.Tie as tie
 
 abbrev Inv-loop : tie.InvT-loop
-Inv-loop self pointer₀ pointer = (3 ≤ pointer) × (pointer ≤ 8) × (lowestFree self ≡ freeFrom self pointer)
+Inv-loop self pointer₀ pointer = (3 ≤ pointer) × (pointer ≤ 8) × (lowestFreePointer self ≡ freeFrom self pointer)
 
 abbrev μ-loop : tie.MeasureT-loop
 μ-loop self pointer₀ pointer = 8 - pointer
 
 loop-holds : tie.Need-loop-holds Inv-loop μ-loop
-unfolding lowestFree
+unfolding lowestFreePointer
 loop-holds c = (omega arith, omega arith, refl)
 
 value-requires : tie.Need-value-requires Inv-loop μ-loop

@@ -1,9 +1,9 @@
 -- `tables::Opening::value` meets its contract. Assumes nothing.
 use mathlib.Core.Path.{_≡_, sym}
 use lib.ListN.{length}
-use Rattle.tables.specs.Lengths.{unmapped}
+use Rattle.tables.specs.laws.Lengths.{unmapped}
 use Rattle.tables.specs.Fields.{valueOf}
-use Rattle.tables.specs.Pointers.{value-none}
+use Rattle.tables.specs.laws.Pointers.{value-none}
 use borrow.Author.Needs.{needs}
 use Rattle.tables.proofs.Opening.value.Statement.{statement}
 use Rattle.tables.proofs.Opening.value.Tie as tie

@@ -1,9 +1,9 @@
 -- `lent::openings::put_opening` meets its contract. Assumes nothing.
 use denote.Ref.{now}
-use Rattle.tables.specs.Lengths.{unmapped}
+use Rattle.tables.specs.laws.Lengths.{unmapped}
 use Rattle.tables_values.proofs.Parts.{put-between}
 use Rattle.tables.specs.Layout.{openingBase, openingCells, putOpening}
-use Rattle.tables.specs.Again.{ShapedOpening, length-opening}
+use Rattle.tables.specs.laws.Again.{ShapedOpening, length-opening}
 use borrow.Author.Needs.{needs}
 use Rattle.tables_values.proofs.openings.put_opening.Statement.{statement}
 use Rattle.tables_values.proofs.openings.put_opening.Tie as tie

@@ -3,7 +3,7 @@ use mathlib.Core.Path.{_≡_, refl, _∙_}
 use mathlib.Core.List.{[], _∷_, map}
 use denote.Ref.{now}
 use lib.ListN.{length, length-map}
-use Rattle.tables.specs.Lengths.{unmapped}
+use Rattle.tables.specs.laws.Lengths.{unmapped}
 use Rattle.tables_values.proofs.Parts.{four-parts}
 use Rattle.tables.specs.Layout.{openingCells, positionNumber, segmentNumber}
 use borrow.Author.Needs.{needs}

@@ -1,9 +1,9 @@
 -- `lent::records::put_record` meets its contract. Assumes nothing.
 use denote.Ref.{now}
-use Rattle.tables.specs.Lengths.{unmapped}
+use Rattle.tables.specs.laws.Lengths.{unmapped}
 use Rattle.tables_values.proofs.Parts.{put-between}
 use Rattle.tables.specs.Layout.{recordBase, recordCells, putRecord}
-use Rattle.tables.specs.Again.{ShapedRecord, length-record}
+use Rattle.tables.specs.laws.Again.{ShapedRecord, length-record}
 use borrow.Author.Needs.{needs}
 use Rattle.tables_values.proofs.records.put_record.Statement.{statement}
 use Rattle.tables_values.proofs.records.put_record.Tie as tie

@@ -1,0 +1,53 @@
+-- Laws of answers/specs/Said.antt. Assumes nothing.
+use Prim.Native.Nat.{ℕ, _-_}
+use mathlib.Core.Path.{_≡_, refl, sym, ap, _∙_}
+use mathlib.Core.List.{[], _∷_}
+use lib.ListN.{getD}
+use Rattle.answers.specs.declared.Refusal.{Refusal}
+use Rattle.answers.specs.declared.Refusal.the-variants as R
+use Rattle.answers.specs.declared.Answer.{Answer}
+use Rattle.answers.specs.declared.Answer.the-variants.{Done, Refused}
+use Rattle.combine.specs.Verdict.{Said, refused, done}
+use Rattle.answers.specs.Said.{refusalNumber, said}
+
+-- ---- there is one answer that says it
+
+refusalOf : ℕ → Refusal
+refusalOf n = getD (R.User ∷ R.Entry ∷ R.Open ∷ R.Pointer ∷ R.Permit ∷ R.Below ∷ R.Beyond ∷ R.Segments ∷ R.Room ∷ R.Positions ∷ R.Unknown ∷ R.NotYours ∷ R.NoWork ∷ R.NotNow ∷ R.Empty ∷ R.Taken ∷ R.Place ∷ R.Public ∷ R.Species ∷ R.Tables ∷ R.Pointers ∷ R.Image ∷ []) (n - 1) R.User
+
+refusal-of : (r : Refusal) → refusalOf (refusalNumber r) ≡ r
+unfolding refusalOf
+refusal-of R.User = refl
+refusal-of R.Entry = refl
+refusal-of R.Open = refl
+refusal-of R.Pointer = refl
+refusal-of R.Permit = refl
+refusal-of R.Below = refl
+refusal-of R.Beyond = refl
+refusal-of R.Segments = refl
+refusal-of R.Room = refl
+refusal-of R.Positions = refl
+refusal-of R.Unknown = refl
+refusal-of R.NotYours = refl
+refusal-of R.NoWork = refl
+refusal-of R.NotNow = refl
+refusal-of R.Empty = refl
+refusal-of R.Taken = refl
+refusal-of R.Place = refl
+refusal-of R.Public = refl
+refusal-of R.Species = refl
+refusal-of R.Tables = refl
+refusal-of R.Pointers = refl
+refusal-of R.Image = refl
+
+answerOf : Said → Answer
+answerOf (done n) = Done n
+answerOf (refused n) = Refused (refusalOf n)
+
+answer-of : (a : Answer) → answerOf (said a) ≡ a
+unfolding answerOf
+answer-of (Done n) = refl
+answer-of (Refused r) = ap Refused (refusal-of r)
+
+pub one-answer : (a b : Answer) → said a ≡ said b → a ≡ b
+one-answer a b e = sym (answer-of a) ∙ ap answerOf e ∙ answer-of b

@@ -1,0 +1,3 @@
+-- The laws of this crate's definitions, which other crates cite. Assumes nothing.
+pub mod Symbols
+pub mod Small
