@@ -10,7 +10,7 @@ use Rattle.combine.specs.Verdict.{done, onDone}
 use Rattle.answers.specs.Said.{said}
 use Rattle.combine.specs.Outcome.{Outcome, outcomeOf, settle}
 use Rattle.placing.specs.Sizes.{Cells, tablesLength, entryOf, freshSegments}
-use Rattle.rules.specs.Calls.{Request, Call, fresh, save, load, count, on}
+use Rattle.rules.specs.Calls.{Request, Start, fresh, load, Question, save, count, Call, starts, asks, on}
 use Rattle.rules.specs.Effects.{Effect}
 use Rattle.rules.specs.Gates.{userGate, entryGate, startGate, imageGate}
 use Rattle.rules.specs.Levels.{perform, ruled, orBlank}
@@ -80,17 +80,23 @@ saveOut s t img = settle (saved s t img) (imageGate (soundLent s t) (eqb (length
 
 -- ---- any call
 
+abbrev pub startOut : Start → (store tables : Cells) → Outcome Lent
+startOut fresh s t = freshOut s t
+startOut (load img) s t = loadOut s t img
+
+-- a question's answer, and the lent list afterwards; that store and tables stay is the law `asked-save`, `asked-count`
+abbrev pub askOut : Question → (store tables : Cells) → Outcome Cells
+askOut (save img) s t = outcomeOf (saveOut s t img .answer) (saveOut s t img .after .image)
+askOut (count u) s t = outcomeOf (freeOut s t u .answer) []
+
 abbrev pub callOut : Call → (store tables : Cells) → Outcome Lent
-callOut fresh s t = freshOut s t
-callOut (save img) s t = outcomeOf (saveOut s t img .answer) (saveOut s t img .after .cells)
-callOut (load img) s t = loadOut s t img
-callOut (count u) s t = freeOut s t u
+callOut (starts c) s t = startOut c s t
+callOut (asks q) s t = outcomeOf (askOut q s t .answer) (lent s t)
 callOut (on u e r) s t = requestOut r s t u e
 
 -- the lent image afterwards, for a call that has one
 abbrev pub callImage : Call → (store tables : Cells) → Cells
-callImage fresh s t = []
-callImage (save img) s t = saveOut s t img .after .image
-callImage (load img) s t = img
-callImage (count u) s t = []
+callImage (starts fresh) s t = []
+callImage (starts (load img)) s t = img
+callImage (asks q) s t = askOut q s t .after
 callImage (on u e r) s t = []

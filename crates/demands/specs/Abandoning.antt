@@ -6,7 +6,7 @@ use mathlib.Core.Bool.{Bool, true, false, not, _&&_, _||_, cond}
 use mathlib.Core.List.{List, [], _∷_, _++_, map}
 use lib.Dec.{T, eqb}
 use Rattle.combine.specs.Verdict.{Said, done, refused, isDone}
-use Rattle.rules.specs.Calls.{Way, Request, opens, closes, abandons, uses, Call, fresh, save, load, count, on}
+use Rattle.rules.specs.Calls.{Way, Request, opens, closes, abandons, uses, fresh, load, save, count, Call, starts, asks, on}
 use Rattle.segments.specs.Free.{freeCount}
 use Rattle.cells.specs.Says.{houseOf}
 use Rattle.cells.specs.Outcomes.{Lent}
@@ -17,10 +17,8 @@ use Rattle.demands.specs.History.{outcomeOn, afterCall, viewOn, toldAll,
 
 -- the call is the user's on the entry
 abbrev pub isOn : ℕ → ℕ → Call → Bool
-isOn u e fresh = false
-isOn u e (save img) = false
-isOn u e (load img) = false
-isOn u e (count v) = false
+isOn u e (starts c) = false
+isOn u e (asks q) = false
 isOn u e (on v d r) = eqb u v && eqb e d
 
 abbrev pub ending : Request → Bool
@@ -31,10 +29,8 @@ ending (uses a) = false
 
 -- the call ends the opening, if it is done
 abbrev pub ends : ℕ → ℕ → Call → Bool
-ends u e fresh = true
-ends u e (save img) = false
-ends u e (load img) = true
-ends u e (count v) = false
+ends u e (starts c) = true
+ends u e (asks q) = false
 ends u e (on v d r) = (eqb u v && eqb e d) && ending r
 
 -- answered "no room" or "not now"
@@ -52,27 +48,25 @@ Quiet u e (c ∷ cs) x = T (quiet u e c (outcomeOn c x .answer)) × Quiet u e cs
 
 -- a load that is done reads what cells freed segments were left with, and these may differ
 abbrev pub isLoad : Call → Bool
-isLoad fresh = false
-isLoad (save img) = false
-isLoad (load img) = true
-isLoad (count v) = false
+isLoad (starts fresh) = false
+isLoad (starts (load img)) = true
+isLoad (asks q) = false
 isLoad (on v d r) = false
 
 abbrev pub NoLoad : List Call → Lent → Type 0
 NoLoad [] x = Unit {0}
 NoLoad (c ∷ cs) x = T (not (isLoad c && isDone (outcomeOn c x .answer))) × NoLoad cs (afterCall c x)
 
--- ---- what becomes of a call when the opening is struck out: its answer stays; it counts free segments between, and its answer may
--- differ; it is struck out itself
+-- ---- what becomes of a call when the opening is struck out: its answer stays; it counts free segments between, and where it is done its
+-- number may differ; it is struck out itself
 
 pub data Fate : Type 0 where
   remains counts struck : Fate
 
 abbrev pub isCount : Call → Bool
-isCount fresh = false
-isCount (save img) = false
-isCount (load img) = false
-isCount (count u) = true
+isCount (starts c) = false
+isCount (asks (save img)) = false
+isCount (asks (count u)) = true
 isCount (on v d r) = false
 
 abbrev pub leftFate : Call → Fate
@@ -85,12 +79,12 @@ abbrev pub strike : ℕ → ℕ → List Call → List Call
 strike u e [] = []
 strike u e (c ∷ cs) = cond (isOn u e c) (strike u e cs) (c ∷ strike u e cs)
 
--- what is told of the calls that stay, in order
+-- what is told of the calls that stay, in order: of the counts between only the refused ones
 abbrev pub heard : List Fate → List Report → List Report
 heard [] l = []
 heard (f ∷ fs) [] = []
 heard (remains ∷ fs) (a ∷ l) = a ∷ heard fs l
-heard (counts ∷ fs) (a ∷ l) = heard fs l
+heard (counts ∷ fs) (a ∷ l) = cond (isDone (a .answer)) (heard fs l) (a ∷ heard fs l)
 heard (struck ∷ fs) (a ∷ l) = heard fs l
 
 -- ---- a history in which an opening is abandoned

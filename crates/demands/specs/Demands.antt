@@ -3,20 +3,20 @@ use Prim.Native.Nat.{ℕ, _*_, _≤_, _<_}
 use mathlib.Core.Path.{_≡_}
 use mathlib.Core.Logic.{_↔_}
 use mathlib.Core.Bool.{Bool, true, false}
-use mathlib.Core.List.{List, _++_}
+use mathlib.Core.List.{List, _∷_, _++_}
 use lib.ListN.{length, getD, take, replicate}
 use Rattle.combine.specs.Below.{countBelow}
 use Rattle.combine.specs.Verdict.{done, refused, isDone}
 use Rattle.combine.specs.Outcome.{outcomeOf}
 use Rattle.placing.specs.Sizes.{tablesLength}
-use Rattle.rules.specs.Calls.{Call, fresh, save, load, count, on}
+use Rattle.rules.specs.Calls.{Start, Call, starts, asks, on}
 use Rattle.rules.specs.House.{closedDown}
 use Rattle.segments.specs.Free.{isFree}
 use Rattle.tables.specs.Layout.{segmentsIn}
 use Rattle.tables.specs.Lists.{heldIn, listed}
 use Rattle.image.specs.Image.{form1, imageLength, imageb}
 use Rattle.cells.specs.Says.{houseOf}
-use Rattle.cells.specs.Outcomes.{Lent, lent, soundLent, freeOut, loadOut, saved, saveOut}
+use Rattle.cells.specs.Outcomes.{Lent, lent, soundLent, lengthsb, freeOut, loadOut, saved, saveOut}
 use Rattle.model.specs.Model.{Model, model}
 use Rattle.model.specs.Step.{Report, step, stepTold}
 use Rattle.model.specs.View.{filesIn}
@@ -52,26 +52,32 @@ Refines c x = _≡_ {A = Report × Model} (toldOf c x, viewOn (afterCall c x)) (
 abbrev pub Demand2 : Type 0
 Demand2 = (c : Call) (x : Lent) → Sound x → Refines c x
 
--- "A fresh start and a load don't look at what the tables held"
-abbrev pub starts : Call → Bool
-starts fresh = true
-starts (save img) = false
-starts (load img) = true
-starts (count u) = false
-starts (on u e r) = false
-
+-- "A fresh start and a load don't look at what the tables held, only at their length and the store's."
 abbrev pub Demand2Start : Type 0
-Demand2Start = (c : Call) (x : Lent) → starts c ≡ true → length (x .tables) ≡ tablesLength → Refines c x
+Demand2Start = (c : Start) (x : Lent) → length (x .tables) ≡ tablesLength → Refines (starts c) x
 
 -- on any other tables: "tables of wrong length or unsound, or store under 64 cells"
+abbrev pub isStart : Call → Bool
+isStart (starts c) = true
+isStart (asks q) = false
+isStart (on u e r) = false
+
 abbrev pub RefusesUnsound : Type 0
-RefusesUnsound = (c : Call) (x : Lent) → starts c ≡ false → soundLent (x .store) (x .tables) ≡ false → outcomeOn c x ≡ outcomeOf (refused 20) x
+RefusesUnsound = (c : Call) (x : Lent) → isStart c ≡ false → soundLent (x .store) (x .tables) ≡ false → outcomeOn c x ≡ outcomeOf (refused 20) x
+
+abbrev pub RefusesLengths : Type 0
+RefusesLengths = (c : Start) (x : Lent) → lengthsb (x .store) (x .tables) ≡ false → outcomeOn (starts c) x ≡ outcomeOf (refused 20) x
 
 -- over histories
+abbrev pub RefinesAll : List Call → Lent → Type 0
+RefinesAll cs x = (toldAll cs x ≡ modelTold (seenAll cs x) (viewOn x)) × (viewOn (final cs x) ≡ modelFinal (seenAll cs x) (viewOn x))
+
 abbrev pub Demand2History : Type 0
-Demand2History =
-    (cs : List Call) (x : Lent) → Sound x
-    → (toldAll cs x ≡ modelTold (seenAll cs x) (viewOn x)) × (viewOn (final cs x) ≡ modelFinal (seenAll cs x) (viewOn x))
+Demand2History = (cs : List Call) (x : Lent) → Sound x → RefinesAll cs x
+
+-- from any cells, a history that begins with a fresh start or a load that is done
+abbrev pub Demand2FromStart : Type 0
+Demand2FromStart = (c : Start) (cs : List Call) (x : Lent) → isDone (outcomeOn (starts c) x .answer) ≡ true → RefinesAll (starts c ∷ cs) x
 
 -- ---- save and load
 

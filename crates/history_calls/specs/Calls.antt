@@ -4,7 +4,7 @@ use mathlib.Core.Bool.{true, false, cond}
 use mathlib.Core.Option.{Option, none, some}
 use mathlib.Core.List.{List, [], _∷_}
 use lib.ListN.{drop}
-use Rattle.rules.specs.Calls.{Call, count, on, opens, closes, abandons, uses}
+use Rattle.rules.specs.Calls.{Call, starts, asks, on, count, opens, closes, abandons, uses}
 use Rattle.rules.specs.Calls as call
 use Rattle.history_words.specs.declared.Numbers.{Numbers}
 use Rattle.history_words.specs.declared.Numbers.the-variants as Numbers
@@ -60,9 +60,9 @@ namedCall w line at = withName w line (namedAt line at)
 -- a word and its numbers: "a number too many, too few, too large or malformed" is no call
 abbrev pub callOf : List ℕ → Numbers → Option Call
 -- fresh
-callOf w Numbers.Zero = cond (sameb w (102 ∷ 114 ∷ 101 ∷ 115 ∷ 104 ∷ [])) (some call.fresh) none
+callOf w Numbers.Zero = cond (sameb w (102 ∷ 114 ∷ 101 ∷ 115 ∷ 104 ∷ [])) (some (starts call.fresh)) none
 -- free
-callOf w (Numbers.One u) = cond (sameb w (102 ∷ 114 ∷ 101 ∷ 101 ∷ [])) (some (count u)) none
+callOf w (Numbers.One u) = cond (sameb w (102 ∷ 114 ∷ 101 ∷ 101 ∷ [])) (some (asks (count u))) none
 callOf w (Numbers.Two u e) = twoCall (found twoWords OfTwo.Unknown w) u e
 callOf w (Numbers.Three u e n) = threeCall (found threeWords OfThree.Unknown w) u e n
 -- write

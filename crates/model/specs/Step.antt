@@ -5,10 +5,10 @@ use mathlib.Core.Option.{Option, none, some}
 use lib.Dec.{eqb, leb}
 use lib.ListN.{length, getD}
 use Rattle.combine.specs.Verdict.{Said, done, isDone, onDone}
-use Rattle.combine.specs.Outcome.{Outcome, settle}
+use Rattle.combine.specs.Outcome.{Outcome, outcomeOf, settle}
 use Rattle.placing.specs.Sizes.{Cells, entryOf}
 use Rattle.image.specs.Image.{form1, imageLength}
-use Rattle.rules.specs.Calls.{Request, Call, fresh, save, load, count, on}
+use Rattle.rules.specs.Calls.{Request, Start, fresh, load, Question, save, count, Call, starts, asks, on}
 use Rattle.rules.specs.Headings.{Open, isSome}
 use Rattle.rules.specs.Effects.{Effect}
 use Rattle.rules.specs.Gates.{userGate, entryGate, startGate, imageGate}
@@ -32,11 +32,18 @@ abbrev pub filesOr : Files → Option Files → Files
 filesOr h none = h
 filesOr h (some f) = f
 
+abbrev pub startOnModel : (look : Cells → Option Files) → Start → Model → Outcome Model
+startOnModel look fresh m = settle m (startGate (leb 64 (m .cells)) (done (0, model (m .cells) (freshHouse (m .cells)))))
+startOnModel look (load img) m = settle m (imageGate (leb 64 (m .cells)) (isSome (look img)) (done (0, model (m .cells) (filesOr (m .house) (look img)))))
+
+-- the answer to a question
+abbrev pub askModel : Question → Model → Said
+askModel (save img) m = imageGate true (eqb (length img) (imageLength form1)) (done 0)
+askModel (count u) m = userGate true u (done (free (m .house)))
+
 abbrev pub step : (look : Cells → Option Files) → Call → Model → Outcome Model
-step look fresh m = settle m (startGate (leb 64 (m .cells)) (done (0, model (m .cells) (freshHouse (m .cells)))))
-step look (save img) m = settle m (imageGate true (eqb (length img) (imageLength form1)) (done (0, m)))
-step look (load img) m = settle m (imageGate (leb 64 (m .cells)) (isSome (look img)) (done (0, model (m .cells) (filesOr (m .house) (look img)))))
-step look (count u) m = settle m (userGate true u (done (free (m .house), m)))
+step look (starts c) m = startOnModel look c m
+step look (asks q) m = outcomeOf (askModel q m) m
 step look (on u e r) m = requestOnModel r u e m
 
 -- ---- what is told of a call: its answer, and the files in the image of a save that is done
@@ -46,10 +53,9 @@ pub record Report : Type 0 where
   pub image : Option Files
 
 abbrev pub imageTold : Call → Said → Option Files → Option Files
-imageTold fresh a f = none
-imageTold (save img) a f = cond (isDone a) f none
-imageTold (load img) a f = none
-imageTold (count u) a f = none
+imageTold (starts c) a f = none
+imageTold (asks (save img)) a f = cond (isDone a) f none
+imageTold (asks (count u)) a f = none
 imageTold (on u e r) a f = none
 
 abbrev pub report : Call → Said → Option Files → Report

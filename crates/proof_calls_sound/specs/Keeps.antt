@@ -8,42 +8,40 @@ use lib.ListN.{length, getD}
 use Rattle.combine.specs.laws.Below.{split-bool, not-both}
 use Rattle.combine.specs.Verdict.{isDone}
 use Rattle.combine.specs.Outcome.{Outcome}
-use Rattle.rules.specs.Calls.{Call, fresh, save, load, count, on}
+use Rattle.rules.specs.Calls.{fresh, load, Call, starts, asks, on}
 use Rattle.tables.specs.laws.Sound.{ranged-of}
 use Rattle.cells.specs.Outcomes.{Lent, soundLent}
-use Rattle.cells.specs.laws.Operator.{fresh-keeps-store, load-keeps-store, save-keeps-cells}
+use Rattle.cells.specs.laws.Operator.{fresh-keeps-store, load-keeps-store}
 use Rattle.demands.specs.History.{outcomeOn}
-use Rattle.demands.specs.Demands.{Sound, KeepsSound, DoneIsSound, KeepsLengths, KeepsBeyond, starts}
+use Rattle.demands.specs.Demands.{Sound, KeepsSound, DoneIsSound, KeepsLengths, KeepsBeyond, isStart}
 use Rattle.demands.specs.laws.Unsound.{refuses-unsound}
 use Rattle.proof_calls_sound.specs.Requests.{request-store-length, request-tables-length, request-sound, request-beyond}
 use Rattle.proof_calls_sound.specs.Fresh.{fresh-tables-length, fresh-tables-sound}
-use Rattle.proof_calls_sound.specs.Starts.{fresh-cases, load-cases, right-length, large-store, image-sound, count-keeps-cells}
+use Rattle.proof_calls_sound.specs.Starts.{fresh-cases, load-cases, right-length, large-store, image-sound}
 
 pub keeps-sound : KeepsSound
-keeps-sound fresh x ok = fresh-cases (λ o. Sound (o .after)) (x .store) (x .tables) ok (λ l. fresh-tables-sound (length (x .store)) (large-store (x .store) (x .tables) l))
-keeps-sound (save img) x ok = subst Sound (sym (save-keeps-cells (x .store) (x .tables) img)) ok
-keeps-sound (load img) x ok = load-cases (λ o. Sound (o .after)) (x .store) (x .tables) img (λ n. ok) (λ l i. image-sound (length (x .store)) img i)
-keeps-sound (count u) x ok = subst Sound (sym (count-keeps-cells (x .store) (x .tables) u)) ok
+keeps-sound (starts fresh) x ok = fresh-cases (λ o. Sound (o .after)) (x .store) (x .tables) ok (λ l. fresh-tables-sound (length (x .store)) (large-store (x .store) (x .tables) l))
+keeps-sound (asks q) x ok = ok
+keeps-sound (starts (load img)) x ok = load-cases (λ o. Sound (o .after)) (x .store) (x .tables) img (λ n. ok) (λ l i. image-sound (length (x .store)) img i)
 keeps-sound (on u e r) x ok = request-sound r (x .store) (x .tables) u e ok
 
 -- ---- a call that is done
 
 -- a call that looks at what the tables hold is done on sound tables only
-done-on-sound : (c : Call) (x : Lent) → starts c ≡ false → isDone (outcomeOn c x .answer) ≡ true → Sound x
+done-on-sound : (c : Call) (x : Lent) → isStart c ≡ false → isDone (outcomeOn c x .answer) ≡ true → Sound x
 done-on-sound c x s d = ⊎-elim
     (λ e. e)
     (λ e. absurd (not-both d (ap (λ (o : Outcome Lent). isDone (o .answer)) (refuses-unsound c x s e))))
     (split-bool (soundLent (x .store) (x .tables)))
 
 pub done-is-sound : DoneIsSound
-done-is-sound fresh x d =
+done-is-sound (starts fresh) x d =
     fresh-cases (λ o. isDone (o .answer) ≡ true → Sound (o .after)) (x .store) (x .tables) (λ q. absurd (not-both q refl))
     (λ l q. fresh-tables-sound (length (x .store)) (large-store (x .store) (x .tables) l)) d
-done-is-sound (save img) x d = keeps-sound (save img) x (done-on-sound (save img) x refl d)
-done-is-sound (load img) x d =
+done-is-sound (asks q) x d = keeps-sound (asks q) x (done-on-sound (asks q) x refl d)
+done-is-sound (starts (load img)) x d =
     load-cases (λ o. isDone (o .answer) ≡ true → Sound (o .after)) (x .store) (x .tables) img (λ n q. absurd (not-both q refl))
     (λ l i q. image-sound (length (x .store)) img i) d
-done-is-sound (count u) x d = keeps-sound (count u) x (done-on-sound (count u) x refl d)
 done-is-sound (on u e r) x d = keeps-sound (on u e r) x (done-on-sound (on u e r) x refl d)
 
 -- ---- lengths
@@ -52,12 +50,11 @@ abbrev SameLengths : Lent → Lent → Type 0
 SameLengths x y = (length (y .store) ≡ length (x .store)) × (length (y .tables) ≡ length (x .tables))
 
 pub keeps-lengths : KeepsLengths
-keeps-lengths fresh x = fresh-cases (λ o. SameLengths x (o .after)) (x .store) (x .tables) (refl, refl)
+keeps-lengths (starts fresh) x = fresh-cases (λ o. SameLengths x (o .after)) (x .store) (x .tables) (refl, refl)
     (λ l. (refl, fresh-tables-length _ ∙ sym (right-length (x .store) (x .tables) l)))
-keeps-lengths (save img) x = subst (SameLengths x) (sym (save-keeps-cells (x .store) (x .tables) img)) (refl, refl)
-keeps-lengths (load img) x = load-cases (λ o. SameLengths x (o .after)) (x .store) (x .tables) img (λ n. (refl, refl))
+keeps-lengths (asks q) x = (refl, refl)
+keeps-lengths (starts (load img)) x = load-cases (λ o. SameLengths x (o .after)) (x .store) (x .tables) img (λ n. (refl, refl))
     (λ l i. (refl, ranged-of (length (x .store)) _ (image-sound (length (x .store)) img i) .0 ∙ sym (right-length (x .store) (x .tables) l)))
-keeps-lengths (count u) x = subst (SameLengths x) (sym (count-keeps-cells (x .store) (x .tables) u)) (refl, refl)
 keeps-lengths (on u e r) x = ⊎-elim
     (λ ok. (request-store-length r (x .store) (x .tables) u e ok, request-tables-length r (x .store) (x .tables) u e ok ∙ sym (ranged-of (length (x .store)) (x .tables) ok .0)))
     (λ unsound. subst (λ (o : Outcome Lent). SameLengths x (o .after)) (sym (refuses-unsound (on u e r) x refl unsound)) (refl, refl))
@@ -66,8 +63,7 @@ keeps-lengths (on u e r) x = ⊎-elim
 -- ---- "cells beyond are never touched"
 
 pub keeps-beyond : KeepsBeyond
-keeps-beyond fresh x ok k l = ap (λ (s : List ℕ). getD s k 0) (fresh-keeps-store (x .store) (x .tables))
-keeps-beyond (save img) x ok k l = ap (λ (y : Lent). getD (y .store) k 0) (save-keeps-cells (x .store) (x .tables) img)
-keeps-beyond (load img) x ok k l = ap (λ (s : List ℕ). getD s k 0) (load-keeps-store (x .store) (x .tables) img)
-keeps-beyond (count u) x ok k l = ap (λ (y : Lent). getD (y .store) k 0) (count-keeps-cells (x .store) (x .tables) u)
+keeps-beyond (starts fresh) x ok k l = ap (λ (s : List ℕ). getD s k 0) (fresh-keeps-store (x .store) (x .tables))
+keeps-beyond (asks q) x ok k l = refl
+keeps-beyond (starts (load img)) x ok k l = ap (λ (s : List ℕ). getD s k 0) (load-keeps-store (x .store) (x .tables) img)
 keeps-beyond (on u e r) x ok k l = request-beyond r (x .store) (x .tables) u e ok k l

@@ -1,4 +1,4 @@
--- Each call on cells but a save, beside the model's: the answers agree, and so does what users know afterwards. Assumes nothing.
+-- Requests, counts and starts on cells, beside the model's: the answers agree, and so does what users know afterwards. Assumes nothing.
 use Prim.Native.Nat.{ℕ, _*_, _≤_}
 use mathlib.Core.Path.{_≡_, refl, sym, ap, _∙_}
 use mathlib.Core.Bool.{Bool, true, false, _&&_, cond}
@@ -23,7 +23,7 @@ use Rattle.cells.specs.Outcomes.{Lent, lent, soundLent, lengthsb, requestOut, f
 use Rattle.cells.specs.laws.Operator.{fresh-says}
 use Rattle.cells.specs.laws.Lowered.{stateOf}
 use Rattle.model.specs.Model.{Files, Model, model, free}
-use Rattle.model.specs.Step.{step, filesOr, requestOnModel}
+use Rattle.model.specs.Step.{filesOr, requestOnModel, startOnModel, askModel}
 use Rattle.model.specs.View.{viewHouse, view, filesIn}
 use Rattle.proof_cells_agree.specs.SoundSays.{sound-says}
 use Rattle.proof_calls_sound.specs.Requests.{fits-store}
@@ -54,17 +54,17 @@ module _ (s t : List ℕ) where
         let shown = request-seen (stateOf (lent s t)) (sound-says (length s) t sound) (house-fits (length s) t sound) r u e in
         record { answer = cells .answer ∙ shown .answer; after = ap viewState (cells .after) ∙ shown .after }
 
-    pub count-agreed : (u : ℕ) → Agrees (freeOut s t u) (step (filesIn s) (count u) (view s t))
+    pub count-agreed : (u : ℕ) → freeOut s t u .answer ≡ askModel (count u) (view s t)
     unfolding freeOut userGate settle refuse_when_else_ view
     count-agreed u = rw sound (go (ltb 7 u))
       where
         counted : free (viewHouse s (houseOf t)) ≡ freeCount (houseOf t)
         counted = free-seen s (houseOf t) (sound-says (length s) t sound)
 
-        go : (b : Bool) → Agrees (settle (lent s t) (refuse 1 when b else done (freeCount (houseOf t), lent s t)))
-            (settle (view s t) (refuse 1 when b else done (free (viewHouse s (houseOf t)), view s t)))
-        go true = record { answer = refl; after = refl }
-        go false = record { answer = ap done (sym counted); after = refl }
+        go : (b : Bool) → settle (lent s t) (refuse 1 when b else done (freeCount (houseOf t), lent s t)) .answer
+            ≡ (refuse 1 when b else done (free (viewHouse s (houseOf t))))
+        go true = refl
+        go false = ap done (sym counted)
 
   -- ---- "A fresh start and a load don't look at what the tables held, only at their length and the store's."
 
@@ -76,7 +76,7 @@ module _ (s t : List ℕ) where
     unfolding view
     fresh-seen = ap (λ (h : SegmentHouse). model (length s) (viewHouse s h)) (fresh-says (freshSegments (length s)))
 
-    pub fresh-agreed : Agrees (freshOut s t) (step (filesIn s) fresh (view s t))
+    pub fresh-agreed : Agrees (freshOut s t) (startOnModel (filesIn s) fresh (view s t))
     unfolding freshOut startGate settle refuse_when_else_ view
     fresh-agreed = rw large (go (leb 64 (length s)))
       where
@@ -85,7 +85,7 @@ module _ (s t : List ℕ) where
         go true = record { answer = refl; after = fresh-seen }
         go false = record { answer = refl; after = refl }
 
-    pub load-agreed : (img : List ℕ) → Agrees (loadOut s t img) (step (filesIn s) (load img) (view s t))
+    pub load-agreed : (img : List ℕ) → Agrees (loadOut s t img) (startOnModel (filesIn s) (load img) (view s t))
     unfolding loadOut imageGate startGate settle refuse_when_else_ view filesIn
     load-agreed img = rw large (go (leb 64 (length s)) (imageb form1 (length s) img))
       where

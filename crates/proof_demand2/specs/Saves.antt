@@ -6,9 +6,9 @@ use mathlib.Core.Option.{Option, none, some}
 use mathlib.Core.List.{List}
 use lib.Dec.{eqb}
 use lib.ListN.{length}
-use Rattle.combine.specs.Verdict.{done, refuse_when_else_}
+use Rattle.combine.specs.Verdict.{Said, done, refuse_when_else_}
 use Rattle.combine.specs.Outcome.{Outcome, settle}
-use Rattle.rules.specs.Calls.{save}
+use Rattle.rules.specs.Calls.{save, asks}
 use Rattle.rules.specs.Gates.{startGate, imageGate}
 use Rattle.rules.specs.House.{closedDown}
 use Rattle.segments.specs.Free.{SegmentHouse}
@@ -24,11 +24,11 @@ use Rattle.proof_images.specs.Closed.{closed-says}
 use Rattle.proof_images.specs.Done.{saved-again, saved-sound}
 
 -- what is told of a save, and what users know afterwards: on cells, and in the model
-abbrev cellsSaid : List ℕ → List ℕ → Outcome Saved → Report × Model
-cellsSaid s img o = (report (save img) (o .answer) (filesIn s (o .after .image)), view (o .after .cells .store) (o .after .cells .tables))
+abbrev cellsSaid : List ℕ → List ℕ → List ℕ → Outcome Saved → Report × Model
+cellsSaid s t img o = (report (asks (save img)) (o .answer) (filesIn s (o .after .image)), view s t)
 
-abbrev modelSaid : List ℕ → List ℕ → List ℕ → Outcome Model → Report × Model
-modelSaid s t img o = (report (save img) (o .answer) (some (closedDown (viewHouse s (houseOf t)))), o .after)
+abbrev modelSaid : List ℕ → List ℕ → List ℕ → Said → Report × Model
+modelSaid s t img a = (report (asks (save img)) a (some (closedDown (viewHouse s (houseOf t)))), view s t)
 
 module _ (s t : List ℕ) (sound : soundLent s t ≡ true) where
   -- whatever a save writes is sound, and holds the permanent files
@@ -40,17 +40,17 @@ module _ (s t : List ℕ) (sound : soundLent s t ≡ true) where
       ∙ ap (λ (h : SegmentHouse). some (viewHouse s h)) (closed-says t (ranged-of (length s) t sound .0))
 
   save-told : (img : List ℕ) (b : Bool)
-      → cellsSaid s img (settle (saved s t img) (imageGate true b (done (0, saved s t (imageOf form1 t)))))
-      ≡ modelSaid s t img (settle (view s t) (imageGate true b (done (0, view s t))))
+      → cellsSaid s t img (settle (saved s t img) (imageGate true b (done (0, saved s t (imageOf form1 t)))))
+      ≡ modelSaid s t img (imageGate true b (done 0))
   unfolding imageGate startGate settle refuse_when_else_
   save-told img true = λ i. (record { answer = done 0; image = saved-files i }, view s t)
   save-told img false = refl
 
-pub save-refines : (img : List ℕ) (x : Lent) → Sound x → Refines (save img) x
+pub save-refines : (img : List ℕ) (x : Lent) → Sound x → Refines (asks (save img)) x
 unfolding saveOut view
 save-refines img x sound =
     let s = x .store in
     let t = x .tables in
     let right = eqb (length img) (imageLength form1) in
-    ap (λ (b : Bool). cellsSaid s img (settle (saved s t img) (imageGate b right (done (0, saved s t (imageOf form1 t)))))) sound
+    ap (λ (b : Bool). cellsSaid s t img (settle (saved s t img) (imageGate b right (done (0, saved s t (imageOf form1 t)))))) sound
     ∙ save-told s t sound img right

@@ -22,11 +22,11 @@ use Rattle.model.specs.View.{viewHouse, view, filesIn}
 use Rattle.proof_calls_sound.specs.Keeps.{keeps-sound}
 use Rattle.demands.specs.History.{outcomeOn, afterCall, toldOf, viewOn}
 use Rattle.demands.specs.Demands.{Sound}
-use Rattle.demands.specs.Abandoning.{isOn, ending, quiet, isLoad, isCount}
+use Rattle.demands.specs.Abandoning.{isOn, ending, quiet, isLoad}
 use Rattle.proof_demand2.specs.Demand2.{demand2}
 use Rattle.proof_demand3.specs.Eased.{emptied}
 use Rattle.proof_demand3.specs.Own.{request-own, abandoned}
-use Rattle.proof_demand3.specs.Steps.{SameLook, Carried, step-another, step-alike}
+use Rattle.proof_demand3.specs.Steps.{SameLook, ToldAlike, Carried, step-another, step-alike}
 
 -- ---- what demand 2 says of a call, part by part
 
@@ -71,7 +71,8 @@ module _ (u e : ℕ) (x y : Lent) (b : Beside (entryOf u e) x y) where
   looks : SameLook (filesIn (x .store)) (filesIn (y .store))
   looks = same-look x y (ap (λ (m : Model). m .cells) (b .seen))
 
-  -- a call that is not the user's by the entry, and quiet: the cells afterwards are beside each other, and the same is told, but of a count
+  -- a call that is not the user's by the entry, and quiet: the cells afterwards are beside each other, and the same is told, but for the
+  -- numbers of counts
   module _ (c : Call) (le : e ≤ 3) (other : isOn u e c ≡ false) (q : T (quiet u e c (outcomeOn c x .answer))) where
     carries : Carried i c (filesIn (x .store)) (filesIn (y .store)) (viewOn x)
     carries = step-another u e (filesIn (x .store)) (filesIn (y .store)) (viewOn x) c le looks other (subst (λ (a : Said). T (quiet u e c a)) (answer-known c x (b .with)) q)
@@ -83,9 +84,11 @@ module _ (u e : ℕ) (x y : Lent) (b : Beside (entryOf u e) x y) where
       seen = after-known c y (b .without) ∙ ap (λ (m : Model). step (filesIn (y .store)) c m .after) (b .seen) ∙ carries .after ∙ sym (ap (emptied i) (after-known c x (b .with)));
     }
 
-    pub another-told : isCount c ≡ false → toldOf c x ≡ toldOf c y
-    another-told n =
-        told-known c x (b .with) ∙ sym (carries .told n) ∙ sym (ap (stepTold (filesIn (y .store)) c) (b .seen)) ∙ sym (told-known c y (b .without))
+    pub another-told : ToldAlike c (toldOf c x) (toldOf c y)
+    another-told =
+        subst (λ (r : Report). ToldAlike c r (toldOf c y)) (sym (told-known c x (b .with)))
+        (subst (λ (r : Report). ToldAlike c (stepTold (filesIn (x .store)) c (viewOn x)) r)
+        (sym (told-known c y (b .without) ∙ ap (stepTold (filesIn (y .store)) c) (b .seen))) (carries .told))
 
   -- a call by the entry that does not end the opening
   pub own-beside : (r : Request) → T (not (ending r && isDone (outcomeOn (on u e r) x .answer))) → Beside i (afterCall (on u e r) x) y

@@ -1,13 +1,14 @@
 -- The calls between the opening and its abandonment, the abandonment, and the calls after, beside the same without the opening. Assumes nothing.
 use Prim.Native.Nat.{ℕ}
 use mathlib.Core.Path.{_≡_, refl, ap₂, subst}
+use mathlib.Core.Logic.{inl, inr}
 use mathlib.Core.Bool.{Bool, true, false, not, _&&_, cond}
 use mathlib.Core.List.{List, [], _∷_, _++_, map}
 use lib.Dec.{T, ltb, eqb, eqb→eq, nltb→le}
 use Rattle.combine.specs.laws.Below.{not-both}
 use Rattle.combine.specs.Verdict.{isDone}
 use Rattle.placing.specs.Sizes.{entryOf}
-use Rattle.rules.specs.Calls.{Request, abandons, Call, fresh, save, load, count, on}
+use Rattle.rules.specs.Calls.{Request, abandons, Call, starts, asks, on}
 use Rattle.cells.specs.Outcomes.{Lent}
 use Rattle.model.specs.Step.{Report}
 use Rattle.proof_calls_sound.specs.Keeps.{keeps-sound}
@@ -15,7 +16,7 @@ use Rattle.proof_requests_sound.specs.Tests.{and-first, and-second}
 use Rattle.demands.specs.History.{outcomeOn, afterCall, toldOf, viewOn, toldAll, final}
 use Rattle.demands.specs.Demands.{Sound}
 use Rattle.demands.specs.Abandoning.{isOn, ending, quiet, Quiet, NoLoad, Fate, remains, counts, struck, isCount, leftFate, betweenFate, strike, heard, allStay}
-use Rattle.proof_demand3.specs.Steps.{goes-on}
+use Rattle.proof_demand3.specs.Steps.{ToldAlike, goes-on}
 use Rattle.proof_demand3.specs.Beside.{Beside, another-beside, another-told, own-beside, abandoned-seen, later-told, later-seen}
 
 -- ---- after the abandonment users know the same
@@ -41,10 +42,8 @@ own-at u e v d x y r b p q t =
     (own-beside u e x y b r)) t
 
 own-call : (u e : ℕ) (x y : Lent) (c : Call) → Beside (entryOf u e) x y → isOn u e c ≡ true → T (quiet u e c (outcomeOn c x .answer)) → Beside (entryOf u e) (afterCall c x) y
-own-call u e x y fresh b o q = absurd (not-both o refl)
-own-call u e x y (save img) b o q = absurd (not-both o refl)
-own-call u e x y (load img) b o q = absurd (not-both o refl)
-own-call u e x y (count v) b o q = absurd (not-both o refl)
+own-call u e x y (starts c) b o q = absurd (not-both o refl)
+own-call u e x y (asks c) b o q = absurd (not-both o refl)
 own-call u e x y (on v d r) b o q =
     let t : T (eqb u v && eqb e d) = rw o tt in
     let going : T (not (((eqb u v && eqb e d) && ending r) && isDone (outcomeOn (on v d r) x .answer))) = goes-on u e (on v d r) (outcomeOn (on v d r) x .answer) q in
@@ -53,13 +52,14 @@ own-call u e x y (on v d r) b o q =
 -- ---- the calls between, with the abandonment and the calls after
 
 -- what is told of a call that may count
-told-left : (c : Call) (a b : Report) (f g : List Fate) (k l : List Report) → (isCount c ≡ false → a ≡ b) → heard f k ≡ heard g l
+told-left : (c : Call) (a b : Report) (f g : List Fate) (k l : List Report) → ToldAlike c a b → heard f k ≡ heard g l
     → heard (leftFate c ∷ f) (a ∷ k) ≡ heard (leftFate c ∷ g) (b ∷ l)
-told-left c a b f g k l h e = go (isCount c) h
+told-left c a b f g k l (inl p) e = go (isCount c)
   where
-    go : (n : Bool) → (n ≡ false → a ≡ b) → heard (cond n counts remains ∷ f) (a ∷ k) ≡ heard (cond n counts remains ∷ g) (b ∷ l)
-    go true h = e
-    go false h = ap₂ {C = List Report} (λ r l. r ∷ l) (h refl) e
+    go : (n : Bool) → heard (cond n counts remains ∷ f) (a ∷ k) ≡ heard (cond n counts remains ∷ g) (b ∷ l)
+    go true = λ i. cond (isDone (p i .answer)) (e i) (p i ∷ e i)
+    go false = ap₂ {C = List Report} (λ r l. r ∷ l) p e
+told-left c a b f g k l (inr d) e = rw (d .0, d .1, d .2) e
 
 module _ (u e : ℕ) (user : T (not (ltb 7 u))) (entry : T (not (ltb 3 e))) (later : List Call) where
   abbrev withIt : List Call → List Call

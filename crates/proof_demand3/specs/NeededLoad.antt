@@ -12,7 +12,7 @@ use Rattle.combine.specs.Verdict.{Said, done, refused, isDone}
 use Rattle.combine.specs.Outcome.{Outcome}
 use Rattle.placing.specs.Placing.{segment, position}
 use Rattle.store.specs.Store.{elementAt}
-use Rattle.rules.specs.Calls.{new, work, read, rename, write, next, opens, closes, uses, Call, save, load, on}
+use Rattle.rules.specs.Calls.{new, work, read, rename, write, next, opens, closes, uses, load, save, Call, starts, asks, on}
 use Rattle.rules.specs.House.{freshHouse}
 use Rattle.segments.specs.State.{State, state, requestOnSegments}
 use Rattle.tables.specs.laws.Sound.{ranged-of}
@@ -40,12 +40,12 @@ readsA = on 2 0 (uses (next 2))
 
 abbrev pub takesTheFreedSegment : Story
 takesTheFreedSegment = record {
-  before = makesFileA ++ (save buffer ∷ on 2 0 (opens (work bytesOfA)) ∷ on 2 0 (uses (rename [])) ∷ on 2 0 (closes false) ∷ []);
+  before = makesFileA ++ (asks (save buffer) ∷ on 2 0 (opens (work bytesOfA)) ∷ on 2 0 (uses (rename [])) ∷ on 2 0 (closes false) ∷ []);
   user = 0;
   entry = 0;
   way = new 5;
   between = on 0 0 (uses (write 1 99)) ∷ [];
-  later = load imageWithA ∷ opensA ∷ readsA ∷ [];
+  later = starts (load imageWithA) ∷ opensA ∷ readsA ∷ [];
 }
 
 -- the calls till the load, with the opening
@@ -77,27 +77,27 @@ unfolding stateAfter
 reads-first s = refl
 
 module _ (y : Lent) (sound : Sound y) (cells : length (y .store) ≡ 8192) where
-  loaded : stateOf (afterCall (load imageWithA) y) ≡ state (y .store) houseWithA
+  loaded : stateOf (afterCall (starts (load imageWithA)) y) ≡ state (y .store) houseWithA
   loaded =
       ap (λ (o : Outcome Lent). stateOf (o .after)) (load-done (y .store) (y .tables) imageWithA (ranged-of (length (y .store)) (y .tables) sound .0)
       (subst (λ (n : ℕ). imageb form1 n imageWithA ≡ true) (sym cells) image-sound))
       ∙ ap (state (y .store)) image-says
 
-  loaded-sound : Sound (afterCall (load imageWithA) y)
-  loaded-sound = keeps-sound (load imageWithA) y sound
+  loaded-sound : Sound (afterCall (starts (load imageWithA)) y)
+  loaded-sound = keeps-sound (starts (load imageWithA)) y sound
 
-  read-after : outcomeOn readsA (final (load imageWithA ∷ opensA ∷ []) y) .answer ≡ done (firstOf (y .store))
+  read-after : outcomeOn readsA (final (starts (load imageWithA) ∷ opensA ∷ []) y) .answer ≡ done (firstOf (y .store))
   read-after =
-      let z = final (load imageWithA ∷ opensA ∷ []) y in
-      request-agrees (uses (next 2)) (z .store) (z .tables) 2 0 (keeps-sound opensA (afterCall (load imageWithA) y) loaded-sound) .answer
+      let z = final (starts (load imageWithA) ∷ opensA ∷ []) y in
+      request-agrees (uses (next 2)) (z .store) (z .tables) 2 0 (keeps-sound opensA (afterCall (starts (load imageWithA)) y) loaded-sound) .answer
       ∙ ap (λ (m : State). requestOnSegments (uses (next 2)) 2 0 m .answer)
-      (state-known (opensA ∷ []) (afterCall (load imageWithA) y) loaded-sound tt ∙ ap (stateAfter (opensA ∷ [])) loaded)
+      (state-known (opensA ∷ []) (afterCall (starts (load imageWithA)) y) loaded-sound tt ∙ ap (stateAfter (opensA ∷ [])) loaded)
       ∙ reads-first (y .store)
 
 -- ---- the same after calls from a fresh start on
 
 after-calls : (cs : List Call) → T (goesOn cs) → (n : ℕ) → firstOf (stateAfter cs (state (replicate 8192 0) (freshHouse 8192)) .store) ≡ n
-    → outcomeOn readsA (final (load imageWithA ∷ opensA ∷ []) (final cs (startedOver 8192))) .answer ≡ done n
+    → outcomeOn readsA (final (starts (load imageWithA) ∷ opensA ∷ []) (final cs (startedOver 8192))) .answer ≡ done n
 after-calls cs going n e =
     let start = started-sound 8192 refl in
     read-after (final cs (startedOver 8192)) (sound-final cs (startedOver 8192) start) (cells-after cs)

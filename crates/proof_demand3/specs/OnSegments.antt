@@ -11,7 +11,7 @@ use Rattle.packing.specs.Packing.{field, putField, takeBits, putBits}
 use Rattle.placing.specs.Placing.{stretchOf, offsetOf, cellOf, bitOf, heldOf, slotOf}
 use Rattle.placing.specs.Sizes.{widthOf, elementsOf}
 use Rattle.store.specs.Store.{elementAt, putElement, zeroed, copied, segmentOf}
-use Rattle.rules.specs.Calls.{Call, fresh, save, load, count, on}
+use Rattle.rules.specs.Calls.{Call, starts, asks, on}
 use Rattle.rules.specs.Access.{writeRule, nextRule, renameRule}
 use Rattle.rules.specs.Rules.{lookUp, openNew, openedAs, openOld, headed, closeRule}
 use Rattle.rules.specs.Gates.{userGate, entryGate}
@@ -19,25 +19,21 @@ use Rattle.segments.specs.Free.{isFree, lowestFree}
 use Rattle.segments.specs.Deeds.{target, prepared}
 use Rattle.segments.specs.State.{State, requestOnSegments}
 use Rattle.cells.specs.Outcomes.{Lent}
-use Rattle.cells.specs.laws.Operator.{save-keeps-cells}
 use Rattle.cells.specs.laws.Lowered.{stateOf}
-use Rattle.proof_calls_sound.specs.Starts.{count-keeps-cells}
 use Rattle.proof_calls_sound.specs.Agrees.{request-agrees}
 use Rattle.proof_calls_sound.specs.Keeps.{keeps-sound}
 use Rattle.proof_requests_sound.specs.Tests.{and-first, and-second}
 use Rattle.demands.specs.History.{afterCall, final}
-use Rattle.demands.specs.Demands.{Sound, starts}
+use Rattle.demands.specs.Demands.{Sound, isStart}
 
 -- no fresh start, and no load
 abbrev pub goesOn : List Call → Bool
 goesOn [] = true
-goesOn (c ∷ cs) = not (starts c) && goesOn cs
+goesOn (c ∷ cs) = not (isStart c) && goesOn cs
 
 abbrev afterOne : Call → State → State
-afterOne fresh m = m
-afterOne (save img) m = m
-afterOne (load img) m = m
-afterOne (count u) m = m
+afterOne (starts c) m = m
+afterOne (asks q) m = m
 afterOne (on u e r) m = requestOnSegments r u e m .after
 
 -- what unfolds this unfolds every definition that it rests on
@@ -46,16 +42,14 @@ unfolding firstBelow refuse_when_else_ settle symbolsOf nameOf scratchName isScr
 stateAfter [] m = m
 stateAfter (c ∷ cs) m = stateAfter cs (afterOne c m)
 
-one-known : (c : Call) (x : Lent) → Sound x → T (not (starts c)) → stateOf (afterCall c x) ≡ afterOne c (stateOf x)
-one-known fresh x s n = absurd n
-one-known (save img) x s n = ap stateOf (save-keeps-cells (x .store) (x .tables) img)
-one-known (load img) x s n = absurd n
-one-known (count u) x s n = ap stateOf (count-keeps-cells (x .store) (x .tables) u)
+one-known : (c : Call) (x : Lent) → Sound x → T (not (isStart c)) → stateOf (afterCall c x) ≡ afterOne c (stateOf x)
+one-known (starts c) x s n = absurd n
+one-known (asks q) x s n = refl
 one-known (on u e r) x s n = request-agrees r (x .store) (x .tables) u e s .after
 
 pub state-known : (cs : List Call) (x : Lent) → Sound x → T (goesOn cs) → stateOf (final cs x) ≡ stateAfter cs (stateOf x)
 unfolding stateAfter
 state-known [] x s n = refl
 state-known (c ∷ cs) x s n =
-    state-known cs (afterCall c x) (keeps-sound c x s) (and-second (not (starts c)) (goesOn cs) n)
-    ∙ ap (stateAfter cs) (one-known c x s (and-first (not (starts c)) (goesOn cs) n))
+    state-known cs (afterCall c x) (keeps-sound c x s) (and-second (not (isStart c)) (goesOn cs) n)
+    ∙ ap (stateAfter cs) (one-known c x s (and-first (not (isStart c)) (goesOn cs) n))

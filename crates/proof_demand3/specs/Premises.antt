@@ -7,7 +7,7 @@ use mathlib.Core.List.{List, [], _∷_}
 use lib.Dec.{T}
 use Rattle.combine.specs.Verdict.{Said, isDone}
 use Rattle.combine.specs.Outcome.{Outcome}
-use Rattle.rules.specs.Calls.{Call, fresh, save, load, count, on}
+use Rattle.rules.specs.Calls.{fresh, load, Call, starts, asks, on}
 use Rattle.cells.specs.Outcomes.{Lent}
 use Rattle.model.specs.Model.{Model}
 use Rattle.model.specs.Step.{step}
@@ -39,10 +39,9 @@ quietb u e (c ∷ cs) m = quiet u e c (step blind c m .answer) && quietb u e cs 
 -- ---- one call
 
 step-blind : (f : Look) (c : Call) (m : Model) → T (not (isLoad c)) → step f c m ≡ step blind c m
-step-blind f fresh m n = refl
-step-blind f (save img) m n = refl
-step-blind f (load img) m n = absurd n
-step-blind f (count u) m n = refl
+step-blind f (starts fresh) m n = refl
+step-blind f (starts (load img)) m n = absurd n
+step-blind f (asks q) m n = refl
 step-blind f (on u e r) m n = refl
 
 module _ (c : Call) (x : Lent) (s : Sound x) (n : T (not (isLoad c))) where

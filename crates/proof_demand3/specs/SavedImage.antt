@@ -14,7 +14,7 @@ use Rattle.combine.specs.Outcome.{Outcome}
 use Rattle.names.specs.Names.{nameOf}
 use Rattle.packing.specs.Packing.{cellsOf, sum, packed}
 use Rattle.placing.specs.Sizes.{places}
-use Rattle.rules.specs.Calls.{new, rename, write, opens, closes, uses, Call, save, on}
+use Rattle.rules.specs.Calls.{new, rename, write, opens, closes, uses, save, Call, asks, on}
 use Rattle.rules.specs.Headings.{filing}
 use Rattle.rules.specs.House.{house, closedDown, freshHouse}
 use Rattle.segments.specs.Free.{SegmentRecord, SegmentHouse}
@@ -113,7 +113,7 @@ image-so = image-by 8192 tables tables-sound ∙ ap imageBy tables-say ∙ packe
 abbrev pub buffer : List ℕ
 buffer = replicate 897 0
 
-pub saved-so : callImage (save buffer) (cellsWithA .store) (cellsWithA .tables) ≡ imageWithA
+pub saved-so : callImage (asks (save buffer)) (cellsWithA .store) (cellsWithA .tables) ≡ imageWithA
 saved-so = ap (λ (o : Outcome Saved). o .after .image) (save-done (cellsWithA .store) tables buffer cells-sound (length-replicate {A = ℕ} 897 0)) ∙ image-so
 
 pub image-sound : imageb form1 8192 imageWithA ≡ true

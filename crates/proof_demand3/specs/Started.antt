@@ -9,7 +9,7 @@ use lib.ListN.{length, replicate, length-replicate}
 use Rattle.combine.specs.Verdict.{done, refuse_when_else_}
 use Rattle.combine.specs.Outcome.{Outcome, outcomeOf, settle}
 use Rattle.placing.specs.Sizes.{freshSegments, tablesLength}
-use Rattle.rules.specs.Calls.{fresh}
+use Rattle.rules.specs.Calls.{fresh, starts}
 use Rattle.rules.specs.Gates.{startGate}
 use Rattle.rules.specs.House.{freshHouse}
 use Rattle.segments.specs.State.{state}
@@ -31,26 +31,26 @@ nothingThere n = model n (freshHouse n)
 -- ---- whatever the cells were before
 
 module _ (s t : List ℕ) (n : ℕ) (cells : length s ≡ n) (large : leb 64 n ≡ true) (long : length t ≡ tablesLength) where
-  starts : freshOut s t ≡ outcomeOf (done 0) (lent s (freshTables (freshSegments n)))
+  started-so : freshOut s t ≡ outcomeOf (done 0) (lent s (freshTables (freshSegments n)))
   unfolding freshOut startGate settle refuse_when_else_
-  starts = rw (eq-eqb (length t) tablesLength long, cells, large) refl
+  started-so = rw (eq-eqb (length t) tablesLength long, cells, large) refl
 
-  pub fresh-leaves-sound : Sound (afterCall fresh (lent s t))
+  pub fresh-leaves-sound : Sound (afterCall (starts fresh) (lent s t))
   fresh-leaves-sound =
-      subst (λ (o : Outcome Lent). Sound (o .after)) (sym starts)
+      subst (λ (o : Outcome Lent). Sound (o .after)) (sym started-so)
       (subst (λ (k : ℕ). soundb k (freshTables (freshSegments n)) ≡ true) (sym cells) (fresh-tables-sound n (leb-true 64 n large)))
 
-  pub fresh-leaves-nothing : viewOn (afterCall fresh (lent s t)) ≡ nothingThere n
+  pub fresh-leaves-nothing : viewOn (afterCall (starts fresh) (lent s t)) ≡ nothingThere n
   unfolding view
-  fresh-leaves-nothing = ap (λ (o : Outcome Lent). viewOn (o .after)) starts ∙ (λ i. model (cells i) (viewHouse s (fresh-says (freshSegments n) i)))
+  fresh-leaves-nothing = ap (λ (o : Outcome Lent). viewOn (o .after)) started-so ∙ (λ i. model (cells i) (viewHouse s (fresh-says (freshSegments n) i)))
 
-  fresh-leaves-state : stateOf (afterCall fresh (lent s t)) ≡ state s (freshHouse n)
-  fresh-leaves-state = ap (λ (o : Outcome Lent). stateOf (o .after)) starts ∙ ap (state s) (fresh-says (freshSegments n))
+  fresh-leaves-state : stateOf (afterCall (starts fresh) (lent s t)) ≡ state s (freshHouse n)
+  fresh-leaves-state = ap (λ (o : Outcome Lent). stateOf (o .after)) started-so ∙ ap (state s) (fresh-says (freshSegments n))
 
 -- ---- over so many zero cells: where the stories that show a premise needed begin
 
 unfoldable pub startedOver : ℕ → Lent
-startedOver n = afterCall fresh (lent (replicate n 0) (replicate tablesLength 0))
+startedOver n = afterCall (starts fresh) (lent (replicate n 0) (replicate tablesLength 0))
 
 module _ (n : ℕ) (large : leb 64 n ≡ true) where
   cells : length (replicate {A = ℕ} n 0) ≡ n

@@ -1,26 +1,25 @@
 -- Any call that is not the user's by the entry, beside the same call where the entry is emptied; and a call where only the store differs in
 -- what freed segments were left with. Assumes nothing.
 use Prim.Native.Nat.{ℕ, _≤_}
-use mathlib.Core.Path.{_≡_, refl, ap, _∙_}
+use mathlib.Core.Path.{_≡_, refl, sym, ap, _∙_}
+use mathlib.Core.Logic.{_⊎_, inl, inr}
 use mathlib.Core.Bool.{Bool, true, false, not, _&&_, _||_}
-use mathlib.Core.Option.{Option, some}
+use mathlib.Core.Option.{Option, none, some}
 use mathlib.Core.List.{List}
-use lib.Dec.{T, ltb, leb, eqb}
-use lib.ListN.{length}
+use lib.Dec.{T, ltb, leb}
 use Rattle.combine.specs.laws.Below.{not-both}
 use Rattle.combine.specs.Verdict.{Said, done, isDone, refuse_when_else_}
 use Rattle.combine.specs.Outcome.{Outcome, outcomeOf, settle}
-use Rattle.placing.specs.Sizes.{entryOf}
-use Rattle.image.specs.Image.{form1, imageLength}
-use Rattle.rules.specs.Calls.{Call, fresh, save, load, count, on}
+use Rattle.placing.specs.Sizes.{greatestUser, entryOf}
+use Rattle.rules.specs.Calls.{fresh, load, save, count, Call, starts, asks, on}
 use Rattle.rules.specs.Headings.{isSome}
 use Rattle.rules.specs.Gates.{userGate, startGate, imageGate}
 use Rattle.rules.specs.House.{closedDown}
 use Rattle.model.specs.Model.{Files, Model, free}
-use Rattle.model.specs.Step.{report, step, stepTold}
+use Rattle.model.specs.Step.{Report, report, askModel, step, stepTold}
 use Rattle.demands.specs.Abandoning.{isOn, ends, crowded, quiet, isLoad, isCount}
 use Rattle.proof_requests_sound.specs.Tests.{and-first, and-second}
-use Rattle.proof_demand3.specs.Eased.{emptiedHouse, emptied}
+use Rattle.proof_demand3.specs.Eased.{emptied}
 use Rattle.proof_demand3.specs.Another.{carried, request-another}
 
 -- what lent images hold
@@ -54,21 +53,6 @@ load-alike : (f g : Look) (h : Model → Model) (m n o : Model) (img : List ℕ)
 load-alike f g h m n o img same t =
     ap (λ (b : Bool). settle (h m) (imageGate (leb 64 (m .cells)) b (done (0, o)))) (same img) ∙ load-refused h m n o (leb 64 (m .cells)) (isSome (f img)) t
 
--- ---- an operator's call, or a count
-
-save-another : (m : Model) (i : ℕ) (b : Bool) → settle (emptied i m) (imageGate true b (done (0, emptied i m))) ≡ carried i (settle m (imageGate true b (done (0, m))))
-unfolding imageGate startGate refuse_when_else_ settle
-save-another m i true = refl
-save-another m i false = refl
-
-count-another : (m : Model) (i u p q : ℕ) → settle (emptied i m) (userGate true u (done (p, emptied i m))) .after ≡ emptied i (settle m (userGate true u (done (q, m))) .after)
-unfolding userGate refuse_when_else_ settle
-count-another m i u p q = go (ltb 7 u)
-  where
-    go : (b : Bool) → settle (emptied i m) (refuse 1 when b else done (p, emptied i m)) .after ≡ emptied i (settle m (refuse 1 when b else done (q, m)) .after)
-    go true = refl
-    go false = refl
-
 -- ---- a call that is not the user's by the entry
 
 pub goes-on : (u e : ℕ) (c : Call) (a : Said) → T (quiet u e c a) → T (not (ends u e c && isDone a))
@@ -81,34 +65,48 @@ uncrowded u e c a other q = go (isOn u e c) other (and-second (not (ends u e c &
     go true n t = absurd (not-both refl n)
     go false n t = t
 
--- afterwards the entry is emptied, and the same is told, but of a count
+-- the same is told; or both count, and are done
+abbrev pub ToldAlike : Call → Report → Report → Type 0
+ToldAlike c a b = (a ≡ b) ⊎ ((isCount c ≡ true) × (isDone (a .answer) ≡ true) × (isDone (b .answer) ≡ true))
+
+-- a count of an unknown user is refused, whatever is free
+count-told : (u : ℕ) (m n : Model) → ToldAlike (asks (count u)) (record { answer = askModel (count u) m; image = none }) (record { answer = askModel (count u) n; image = none })
+unfolding userGate refuse_when_else_
+count-told u m n = go (ltb greatestUser u)
+  where
+    told : Bool → ℕ → Report
+    told b k = record { answer = refuse 1 when b else done k; image = none }
+
+    go : (b : Bool) → ToldAlike (asks (count u)) (told b (free (m .house))) (told b (free (n .house)))
+    go true = inl refl
+    go false = inr (refl, refl, refl)
+
+-- afterwards the entry is emptied, and the same is told, but for the numbers of counts
 pub record Carried (i : ℕ) (c : Call) (f g : Look) (m : Model) : Type 0 where
   pub after : step g c (emptied i m) .after ≡ emptied i (step f c m .after)
-  pub told : isCount c ≡ false → stepTold g c (emptied i m) ≡ stepTold f c m
+  pub told : ToldAlike c (stepTold f c m) (stepTold g c (emptied i m))
 
 whole-carried : (i : ℕ) (c : Call) (f g : Look) (m : Model) → step g c (emptied i m) ≡ carried i (step f c m) → Carried i c f g m
 whole-carried i c f g m e = record {
   after = ap (λ (o : Outcome Model). o .after) e;
-  told = λ q. ap (λ (o : Outcome Model). report c (o .answer) (some (closedDown (m .house)))) e;
+  told = inl (sym (ap (λ (o : Outcome Model). report c (o .answer) (some (closedDown (m .house)))) e));
 }
 
 pub step-another : (u e : ℕ) (f g : Look) (m : Model) (c : Call) → e ≤ 3 → SameLook f g → isOn u e c ≡ false → T (quiet u e c (step f c m .answer)) → Carried (entryOf u e) c f g m
-step-another u e f g m fresh le same other q =
-    whole-carried (entryOf u e) fresh f g m (fresh-refused m _ (entryOf u e) (leb 64 (m .cells)) (goes-on u e fresh (step f fresh m .answer) q))
-step-another u e f g m (save img) le same other q =
-    whole-carried (entryOf u e) (save img) f g m (save-another m (entryOf u e) (eqb (length img) (imageLength form1)))
-step-another u e f g m (load img) le same other q =
-    whole-carried (entryOf u e) (load img) f g m (load-alike f g (emptied (entryOf u e)) m _ _ img same (goes-on u e (load img) (step f (load img) m .answer) q))
-step-another u e f g m (count v) le same other q =
-    record { after = count-another m (entryOf u e) v (free (emptiedHouse (entryOf u e) (m .house))) (free (m .house)); told = λ n. absurd (not-both refl n) }
+step-another u e f g m (starts fresh) le same other q =
+    whole-carried (entryOf u e) (starts fresh) f g m (fresh-refused m _ (entryOf u e) (leb 64 (m .cells)) (goes-on u e (starts fresh) (step f (starts fresh) m .answer) q))
+step-another u e f g m (starts (load img)) le same other q =
+    whole-carried (entryOf u e) (starts (load img)) f g m
+    (load-alike f g (emptied (entryOf u e)) m _ _ img same (goes-on u e (starts (load img)) (step f (starts (load img)) m .answer) q))
+step-another u e f g m (asks (save img)) le same other q = whole-carried (entryOf u e) (asks (save img)) f g m refl
+step-another u e f g m (asks (count v)) le same other q = record { after = refl; told = count-told v m (emptied (entryOf u e) m) }
 step-another u e f g m (on v d r) le same other q =
     whole-carried (entryOf u e) (on v d r) f g m (request-another u e m v d r le (rw other tt) (uncrowded u e (on v d r) (step f (on v d r) m .answer) other q))
 
 -- ---- a call on the same state, beside another store
 
 pub step-alike : (f g : Look) (m : Model) (c : Call) → SameLook f g → T (not (isLoad c && isDone (step f c m .answer))) → step g c m ≡ step f c m
-step-alike f g m fresh same q = refl
-step-alike f g m (save img) same q = refl
-step-alike f g m (load img) same q = load-alike f g (λ n. n) m _ _ img same q
-step-alike f g m (count u) same q = refl
+step-alike f g m (starts fresh) same q = refl
+step-alike f g m (starts (load img)) same q = load-alike f g (λ n. n) m _ _ img same q
+step-alike f g m (asks q) same n = refl
 step-alike f g m (on u e r) same q = refl

@@ -8,7 +8,7 @@ use lib.Dec.{T}
 use lib.ListN.{length, replicate}
 use Rattle.combine.specs.Verdict.{isDone}
 use Rattle.placing.specs.Sizes.{tablesLength}
-use Rattle.rules.specs.Calls.{new, work, read, rename, write, next, opens, closes, uses, Call, fresh, count, on}
+use Rattle.rules.specs.Calls.{new, work, read, rename, write, next, opens, closes, uses, fresh, count, Call, starts, asks, on}
 use Rattle.cells.specs.Outcomes.{lent}
 use Rattle.model.specs.Model.{Model}
 use Rattle.model.specs.Step.{step}
@@ -37,9 +37,9 @@ storyAfter before = record {
   user = 2;
   entry = 0;
   way = work fileA;
-  between = on 2 0 (uses (write 2 99)) ∷ on 3 1 (opens (new 3)) ∷ on 2 0 (uses (write 1 7)) ∷ on 3 1 (uses (write 1 6)) ∷ count 3
+  between = on 2 0 (uses (write 2 99)) ∷ on 3 1 (opens (new 3)) ∷ on 2 0 (uses (write 1 7)) ∷ on 3 1 (uses (write 1 6)) ∷ asks (count 3)
       ∷ on 2 0 (uses (rename (98 ∷ []))) ∷ on 3 1 (uses (rename fileC)) ∷ on 3 1 (closes true) ∷ [];
-  later = on 2 1 (opens (read fileA)) ∷ on 2 1 (uses (next 2)) ∷ on 2 0 (opens (read fileC)) ∷ on 2 0 (uses (next 2)) ∷ count 2 ∷ [];
+  later = on 2 1 (opens (read fileA)) ∷ on 2 1 (uses (next 2)) ∷ on 2 0 (opens (read fileC)) ∷ on 2 0 (uses (next 2)) ∷ asks (count 2) ∷ [];
 }
 
 -- ---- on the state as its users know it, after a fresh start over 1,024 cells
@@ -55,16 +55,16 @@ quietly = tt
 -- ---- on any cells
 
 module _ (s t : List ℕ) (cells : length s ≡ 1024) (long : length t ≡ tablesLength) where
-  starts : viewOn (afterCall fresh (lent s t)) ≡ nothingThere 1024
-  starts = fresh-leaves-nothing s t 1024 cells refl long
+  nothing-there : viewOn (afterCall (starts fresh) (lent s t)) ≡ nothingThere 1024
+  nothing-there = fresh-leaves-nothing s t 1024 cells refl long
 
   -- the premises of demand 3 are met
-  pub premises : Abandoned (storyAfter (fresh ∷ filled)) (lent s t)
+  pub premises : Abandoned (storyAfter (starts fresh ∷ filled)) (lent s t)
   premises =
-      let a = abandoned-known (storyAfter filled) (afterCall fresh (lent s t)) (fresh-leaves-sound s t 1024 cells refl long) tt tt tt
-      (subst (λ (m : Model). T (isDone (step blind (openingCall (storyAfter filled)) (knownAfter filled m) .answer))) (sym starts) well)
-      (subst (λ (m : Model). T (quietb 2 0 (storyAfter filled .between) (step blind (openingCall (storyAfter filled)) (knownAfter filled m) .after))) (sym starts) quietly) in
+      let a = abandoned-known (storyAfter filled) (afterCall (starts fresh) (lent s t)) (fresh-leaves-sound s t 1024 cells refl long) tt tt tt
+      (subst (λ (m : Model). T (isDone (step blind (openingCall (storyAfter filled)) (knownAfter filled m) .answer))) (sym nothing-there) well)
+      (subst (λ (m : Model). T (quietb 2 0 (storyAfter filled .between) (step blind (openingCall (storyAfter filled)) (knownAfter filled m) .after))) (sym nothing-there) quietly) in
       record { opened = a .opened; quietly = a .quietly; noLoad = a .noLoad }
 
-  pub no-trace : NoTrace (storyAfter (fresh ∷ filled)) (lent s t)
-  no-trace = demand3 (storyAfter (fresh ∷ filled)) (lent s t) premises
+  pub no-trace : NoTrace (storyAfter (starts fresh ∷ filled)) (lent s t)
+  no-trace = demand3 (storyAfter (starts fresh ∷ filled)) (lent s t) premises

@@ -1,7 +1,7 @@
 -- "Every refusal leaves store, tables and image buffer as they stood"; and a promise that is an equation of outcomes "admits one outcome".
 -- Assumes nothing.
 use Prim.Native.Nat.{ℕ}
-use mathlib.Core.Path.{_≡_, sym, ap, _∙_}
+use mathlib.Core.Path.{_≡_, refl, sym, ap, _∙_}
 use mathlib.Core.Bool.{false}
 use mathlib.Core.List.{List}
 use Rattle.answers.specs.declared.Answer.{Answer}
@@ -10,18 +10,17 @@ use Rattle.answers.specs.Said.{said}
 use Rattle.answers.specs.laws.Said.{one-answer}
 use Rattle.combine.specs.Outcome.{Outcome, outcomeOf}
 use Rattle.combine.specs.laws.Outcome.{refusal-keeps}
-use Rattle.rules.specs.Calls.{Call, fresh, save, load, count, on}
-use Rattle.cells.specs.Outcomes.{Lent, lent, outcome, Saved, saved, callOut, callImage, requestOut, freeOut, freshOut, loadOut, saveOut}
+use Rattle.rules.specs.Calls.{fresh, load, save, Call, starts, asks, on}
+use Rattle.cells.specs.Outcomes.{Lent, lent, outcome, Saved, saved, callOut, callImage, requestOut, freshOut, loadOut, saveOut}
 
 pub refusal-keeps-cells : (c : Call) (s t : List ℕ) → isDone (callOut c s t .answer) ≡ false → callOut c s t .after ≡ lent s t
-unfolding requestOut freeOut freshOut loadOut saveOut
-refusal-keeps-cells fresh s t e = refusal-keeps _ _ e
-refusal-keeps-cells (save img) s t e = ap (λ (x : Saved). x .cells) (refusal-keeps _ _ e)
-refusal-keeps-cells (load img) s t e = refusal-keeps _ _ e
-refusal-keeps-cells (count u) s t e = refusal-keeps _ _ e
+unfolding requestOut freshOut loadOut
+refusal-keeps-cells (starts fresh) s t e = refusal-keeps _ _ e
+refusal-keeps-cells (starts (load img)) s t e = refusal-keeps _ _ e
+refusal-keeps-cells (asks q) s t e = refl
 refusal-keeps-cells (on u k r) s t e = refusal-keeps _ _ e
 
-pub refusal-keeps-image : (img s t : List ℕ) → isDone (callOut (save img) s t .answer) ≡ false → callImage (save img) s t ≡ img
+pub refusal-keeps-image : (img s t : List ℕ) → isDone (callOut (asks (save img)) s t .answer) ≡ false → callImage (asks (save img)) s t ≡ img
 unfolding saveOut
 refusal-keeps-image img s t e = ap (λ (x : Saved). x .image) (refusal-keeps _ _ e)
 

@@ -1,17 +1,22 @@
--- "tables of wrong length or unsound, or store under 64 cells": proved of every call that looks at what the tables hold. Assumes nothing.
+-- "tables of wrong length or unsound, or store under 64 cells": of every call that looks at what the tables hold, and of a start, which looks at the
+-- lengths alone. Assumes nothing.
 use mathlib.Core.Path.{refl}
 use Rattle.combine.specs.laws.Below.{not-both}
 use Rattle.combine.specs.Verdict.{refuse_when_else_}
 use Rattle.combine.specs.Outcome.{settle}
-use Rattle.rules.specs.Calls.{fresh, save, load, count, on}
+use Rattle.rules.specs.Calls.{fresh, load, save, count, starts, asks, on}
 use Rattle.rules.specs.Gates.{userGate, entryGate, startGate, imageGate}
-use Rattle.cells.specs.Outcomes.{requestOut, freeOut, saveOut}
-use Rattle.demands.specs.Demands.{RefusesUnsound}
+use Rattle.cells.specs.Outcomes.{requestOut, freeOut, freshOut, loadOut, saveOut}
+use Rattle.demands.specs.Demands.{RefusesUnsound, RefusesLengths}
 
 pub refuses-unsound : RefusesUnsound
 unfolding requestOut freeOut saveOut userGate entryGate startGate imageGate settle refuse_when_else_
-refuses-unsound fresh x s e = absurd (not-both refl s)
-refuses-unsound (save img) x s e = rw e refl
-refuses-unsound (load img) x s e = absurd (not-both refl s)
-refuses-unsound (count u) x s e = rw e refl
+refuses-unsound (starts c) x s e = absurd (not-both refl s)
+refuses-unsound (asks (save img)) x s e = rw e refl
+refuses-unsound (asks (count u)) x s e = rw e refl
 refuses-unsound (on u k r) x s e = rw e refl
+
+pub refuses-lengths : RefusesLengths
+unfolding freshOut loadOut startGate imageGate settle refuse_when_else_
+refuses-lengths fresh x e = rw e refl
+refuses-lengths (load img) x e = rw e refl
