@@ -19,7 +19,7 @@ use Rattle.history_lines.specs.declared.Named.the-variants as Named
 use Rattle.history_lines.specs.Spelling.{found, nameWords}
 use Rattle.history_lines.specs.Naming.{namedAt}
 use Rattle.history_calls.specs.Calls.{twoCall, threeCall, nameCall, namedCall, withName, callOf, callFrom, callIn}
-use Rattle.history_calls.specs.Told.{Told, toldOf, tell-call, tell-none}
+use Rattle.history_calls.specs.Told.{Told, toldOf, tell-call, tell-count, tell-none}
 
 module _ (s t : List ℕ) (y : Told) where
   pub two-known : (w k : OfTwo) (u e : ℕ) → w ≡ k → y ≡ toldOf (twoCall k u e) s t → y ≡ toldOf (twoCall w u e) s t
@@ -85,7 +85,7 @@ module _ (s t : List ℕ) (y : Told) where
 
 pub ruleset known = (tell-call, tell-none, two-known, three-known, name-known)
 
-pub ruleset counted = (tell-call, tell-none, numbers-known, word-here, word-other, two-found, three-found)
+pub ruleset counted = (tell-call, tell-count, tell-none, numbers-known, word-here, word-other, two-found, three-found)
 
 pub ruleset heard = (word-read, numbers-read)
 

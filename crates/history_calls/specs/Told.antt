@@ -7,8 +7,9 @@ use Rattle.answers.specs.declared.Answer.{Answer}
 use Rattle.answers.specs.Said.{said}
 use Rattle.combine.specs.Verdict.{Said, done, refused}
 use Rattle.combine.specs.Outcome.{Outcome, outcomeOf}
-use Rattle.rules.specs.Calls.{Call}
-use Rattle.cells.specs.Outcomes.{Lent, lent, callOut}
+use Rattle.rules.specs.Calls.{count, Call, asks}
+use Rattle.cells.specs.Outcomes.{Lent, lent, freeOut, callOut}
+use Rattle.cells.specs.laws.Operator.{asked-count}
 use Rattle.history_calls.specs.declared.Reply.{Reply}
 use Rattle.history_calls.specs.declared.Reply.the-variants.{Done, Refused, Bad}
 
@@ -36,6 +37,10 @@ module _ (s t : List ℕ) where
   pub tell-call : (a : Answer) (r : Reply) (x : Lent) (c : Call) → r ≡ replyOf (said a) → outcomeOf (said a) x ≡ callOut c s t → told r x ≡ toldOf (some c) s t
   unfolding toldOf toldBy
   tell-call a r x c p q = ap (λ y. told y x) p ∙ ap toldBy q
+
+  -- "the number of free segments"
+  pub tell-count : (a : Answer) (r : Reply) (x : Lent) (u : ℕ) → r ≡ replyOf (said a) → outcomeOf (said a) x ≡ freeOut s t u → told r x ≡ toldOf (some (asks (count u))) s t
+  tell-count a r x u p q = tell-call a r x (asks (count u)) p (q ∙ asked-count s t u)
 
   pub tell-none : told Bad (lent s t) ≡ toldOf none s t
   unfolding toldOf

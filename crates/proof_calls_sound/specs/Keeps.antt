@@ -15,7 +15,7 @@ use Rattle.cells.specs.laws.Operator.{fresh-keeps-store, load-keeps-store}
 use Rattle.demands.specs.History.{outcomeOn}
 use Rattle.demands.specs.Demands.{Sound, KeepsSound, DoneIsSound, KeepsLengths, KeepsBeyond, isStart}
 use Rattle.demands.specs.laws.Unsound.{refuses-unsound}
-use Rattle.proof_calls_sound.specs.Requests.{request-store-length, request-tables-length, request-sound, request-beyond}
+use Rattle.proof_requests_agree.specs.Requests.{request-store-length, request-tables-length, request-sound, request-beyond}
 use Rattle.proof_calls_sound.specs.Fresh.{fresh-tables-length, fresh-tables-sound}
 use Rattle.proof_calls_sound.specs.Starts.{fresh-cases, load-cases, right-length, large-store, image-sound}
 

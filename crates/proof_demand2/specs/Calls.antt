@@ -26,8 +26,8 @@ use Rattle.model.specs.Model.{Files, Model, model, free}
 use Rattle.model.specs.Step.{filesOr, requestOnModel, startOnModel, askModel}
 use Rattle.model.specs.View.{viewHouse, view, filesIn}
 use Rattle.proof_cells_agree.specs.SoundSays.{sound-says}
-use Rattle.proof_calls_sound.specs.Requests.{fits-store}
-use Rattle.proof_calls_sound.specs.Agrees.{request-agrees}
+use Rattle.proof_requests_agree.specs.Requests.{fits-store}
+use Rattle.proof_requests_agree.specs.Agrees.{request-agrees}
 use Rattle.proof_model.specs.Counted.{free-seen}
 use Rattle.proof_model.specs.Entries.{viewState}
 use Rattle.proof_model.specs.Requests.{request-seen}

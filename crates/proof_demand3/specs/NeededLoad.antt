@@ -20,7 +20,7 @@ use Rattle.image.specs.Image.{form1, imageb}
 use Rattle.cells.specs.Outcomes.{Lent}
 use Rattle.cells.specs.laws.Lowered.{stateOf}
 use Rattle.proof_images.specs.Done.{load-done}
-use Rattle.proof_calls_sound.specs.Agrees.{request-agrees}
+use Rattle.proof_requests_agree.specs.Agrees.{request-agrees}
 use Rattle.proof_calls_sound.specs.Keeps.{keeps-sound}
 use Rattle.demands.specs.History.{outcomeOn, afterCall, final}
 use Rattle.demands.specs.Demands.{Sound}

@@ -17,7 +17,7 @@ use Rattle.tables.specs.laws.Sound.{ranged-of}
 use Rattle.cells.specs.Outcomes.{lent, soundLent, requestOut}
 use Rattle.cells.specs.laws.Lowered.{stateOf, Lowers, request-lowered}
 use Rattle.proof_cells_agree.specs.SoundSays.{sound-says}
-use Rattle.proof_calls_sound.specs.Fits.{all-fit}
+use Rattle.proof_requests_agree.specs.Fits.{all-fit}
 
 module _ (r : Request) (s t : List ℕ) (u e : ℕ) (sound : soundLent s t ≡ true) where
   no-user : greatestUser < u → Lowers (requestOut r s t u e) (requestOnSegments r u e (stateOf (lent s t)))

@@ -34,8 +34,8 @@ use Rattle.proof_requests_sound.specs.Beyond.{request-keeps-segments, request-k
 use Rattle.proof_cells_agree.specs.SoundSays.{sound-says}
 use Rattle.proof_cells_agree.specs.Canonical.{Canonical, sound-canonical, written-length, written-canonical}
 use Rattle.proof_cells_agree.specs.SaysSound.{says-sound}
-use Rattle.proof_calls_sound.specs.Fits.{all-fit}
-use Rattle.proof_calls_sound.specs.Agrees.{request-agrees}
+use Rattle.proof_requests_agree.specs.Fits.{all-fit}
+use Rattle.proof_requests_agree.specs.Agrees.{request-agrees}
 
 -- "A number fits a store of at least 64 times as many cells"
 pub fits-store : (cells : ℕ) (t : List ℕ) → soundb cells t ≡ true → segmentCells * segmentsIn t ≤ cells
