@@ -1,24 +1,39 @@
 -- The worked examples that document 01 marks, as one list. Assumes nothing.
-use Prim.Native.Nat.{ℕ}
+use Prim.Native.Nat.{ℕ, _*_}
 use mathlib.Core.Path.{_≡_}
 use mathlib.Core.Bool.{false}
 use mathlib.Core.List.{List, [], _∷_}
-use lib.ListN.{replicate}
+use lib.ListN.{length, replicate}
 use Rattle.combine.specs.Verdict.{Said, done, refused}
+use Rattle.combine.specs.Outcome.{outcomeOf}
+use Rattle.placing.specs.Sizes.{Cells, segmentCells, tablesLength}
 use Rattle.placing.specs.Placing.{segment, position, heldOf, claimOf}
 use Rattle.store.specs.Store.{putElement}
-use Rattle.names.specs.Names.{nameOf}
-use Rattle.rules.specs.Calls.{new, work, read, rename, newPointer, write, next, prev, askBegin, askEnd, opens, closes, abandons, uses}
-use Rattle.examples.specs.Run.{answersIn, imageIn}
+use Rattle.names.specs.Names.{Bytes, nameOf}
+use Rattle.rules.specs.Calls.{new, work, read, rename, newPointer, write, next, prev, askBegin, askEnd, opens, closes, abandons, uses, Call, fresh, on}
+use Rattle.image.specs.Image.{form1, imageLength}
+use Rattle.cells.specs.Outcomes.{lent, saved, saveOut}
+use Rattle.demands.specs.History.{final}
+use Rattle.examples.specs.Run.{answersIn}
 
--- what the definitions give, and what document 01 says
+-- what the definitions give, and what document 01 says; and what is saved after calls over so many cells
 pub data Example : Type 0 where
   numbers : (given said : List ℕ) → Example
   answered : (given said : List Said) → Example
+  saves : (cells : ℕ) (calls : List Call) (image : Cells) → Example
+
+-- whatever the store and the tables hold before the calls, and the buffer before the save: the save is done, leaves the image in the buffer, and
+-- store and tables as the calls left them
+abbrev pub SavesAfter : (cells : ℕ) (calls : List Call) (image : Cells) → Type 0
+SavesAfter n calls image =
+    (store tables buffer : Cells) → length store ≡ n → length tables ≡ tablesLength → length buffer ≡ imageLength form1
+    → let x = final calls (lent store tables) in
+    saveOut (x .store) (x .tables) buffer ≡ outcomeOf (done 0) (saved (x .store) (x .tables) image)
 
 abbrev pub Holds : Example → Type 0
 Holds (numbers given said) = given ≡ said
 Holds (answered given said) = given ≡ said
+Holds (saves n calls image) = SavesAfter n calls image
 
 abbrev pub AllHold : List Example → Type 0
 AllHold [] = Unit {0}
@@ -59,22 +74,30 @@ ownPointer =
 
 -- fresh with 128 segments, saved: 0x01100000, then 896 zero cells
 abbrev pub savedFresh : Example
-savedFresh = numbers (imageIn 8192 []) (0x01100000 ∷ replicate 896 0)
+savedFresh = saves (segmentCells * 128) (fresh ∷ []) (0x01100000 ∷ replicate 896 0)
 
--- that store with one private file "a" of user 2, species 5, b = 1, e = 2, segment 0
+-- that store with one private file "a" of user 2, species 5, b = 1, e = 2, segment 0: cells 0x01100000, 0x95FFFFFF, 0xFFFFFFFF, 0xFFAD0000,
+-- 0x01000002, then 892 zeros
+abbrev pub bytesOfA : Bytes
+bytesOfA = 97 ∷ []
+
+abbrev pub makesFileA : List Call
+makesFileA = on 2 0 (opens (new 5)) ∷ on 2 0 (uses (write 1 10)) ∷ on 2 0 (uses (rename bytesOfA)) ∷ on 2 0 (closes false) ∷ []
+
+abbrev pub imageWithA : Cells
+imageWithA = 0x01100000 ∷ 0x95FFFFFF ∷ 0xFFFFFFFF ∷ 0xFFAD0000 ∷ 0x01000002 ∷ replicate 892 0
+
 abbrev pub savedFile : Example
-savedFile =
-    numbers (imageIn 8192 (opens (new 5) ∷ uses (write 1 10) ∷ uses (rename (97 ∷ [])) ∷ closes false ∷ []))
-    (0x01100000 ∷ 0x95FFFFFF ∷ 0xFFFFFFFF ∷ 0xFFAD0000 ∷ 0x01000002 ∷ replicate 892 0)
+savedFile = saves (segmentCells * 128) (fresh ∷ makesFileA) imageWithA
 
 -- file 10, 20 opened for work, prev through 1, append 99, abandon: read gives 10, 20
 abbrev pub givenUp : Example
 givenUp =
     answered
     (answersIn 128
-    (opens (new 5) ∷ uses (write 1 10) ∷ uses (write 1 20) ∷ uses (rename (97 ∷ [])) ∷ closes false
-    ∷ opens (work (97 ∷ [])) ∷ uses (prev 1) ∷ uses (write 1 99) ∷ abandons
-    ∷ opens (read (97 ∷ [])) ∷ uses (next 2) ∷ uses (next 2) ∷ []))
+    (opens (new 5) ∷ uses (write 1 10) ∷ uses (write 1 20) ∷ uses (rename bytesOfA) ∷ closes false
+    ∷ opens (work bytesOfA) ∷ uses (prev 1) ∷ uses (write 1 99) ∷ abandons
+    ∷ opens (read bytesOfA) ∷ uses (next 2) ∷ uses (next 2) ∷ []))
     (done 0 ∷ done 0 ∷ done 0 ∷ done 0 ∷ done 0 ∷ done 0 ∷ done 20 ∷ done 0 ∷ done 0 ∷ done 0 ∷ done 10 ∷ done 20 ∷ [])
 
 abbrev pub worked : List Example

@@ -25,7 +25,7 @@ use Rattle.demands.specs.History.{outcomeOn, afterCall, viewOn, toldAll}
 use Rattle.demands.specs.Demands.{Sound}
 use Rattle.demands.specs.Abandoning.{isLoad, heard, Story, whole, rest, wholeFates, restFates, NoTrace}
 use Rattle.proof_demand3.specs.Premises.{blind, noLoadb, answer-blind, after-blind}
-use Rattle.proof_demand3.specs.Started.{nothingThere, startedOver, started-sound, started-known}
+use Rattle.proof_examples.specs.Started.{nothingThere, startedOver, started-sound, started-known}
 
 abbrev pub answersOn : List Call → Lent → List Said
 answersOn [] x = []

@@ -8,12 +8,10 @@ pub mod Beside
 pub mod Histories
 pub mod Demand3
 pub mod Premises
-pub mod Started
 pub mod Answers
 pub mod Told
 pub mod ButOne
 pub mod Needed9
 pub mod Needed14
-pub mod OnSegments
 pub mod SavedImage
 pub mod NeededLoad

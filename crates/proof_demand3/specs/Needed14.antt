@@ -10,7 +10,7 @@ use Rattle.combine.specs.laws.Below.{not-both}
 use Rattle.combine.specs.Verdict.{Said, done, refused, isDone}
 use Rattle.rules.specs.Calls.{new, work, read, rename, opens, closes, uses, on}
 use Rattle.demands.specs.Abandoning.{Story, whole, rest, NoTrace}
-use Rattle.proof_demand3.specs.Started.{nothingThere, startedOver}
+use Rattle.proof_examples.specs.Started.{nothingThere, startedOver}
 use Rattle.proof_demand3.specs.Answers.{answersOn, answersKnown, answers-started, Passed, answered-otherwise}
 use Rattle.proof_demand3.specs.ButOne.{quietBut, AbandonedBut}
 

@@ -16,7 +16,7 @@ use Rattle.demands.specs.History.{afterCall, viewOn}
 use Rattle.demands.specs.Abandoning.{Story, openingCall, Abandoned, NoTrace}
 use Rattle.proof_demand3.specs.Premises.{blind, knownAfter, quietb, abandoned-known}
 use Rattle.proof_demand3.specs.Demand3.{demand3}
-use Rattle.proof_demand3.specs.Started.{nothingThere, fresh-leaves-sound, fresh-leaves-nothing}
+use Rattle.proof_examples.specs.Started.{nothingThere, fresh-leaves-sound, fresh-leaves-nothing}
 use Rattle.proof_demand3.specs.Answers.{answersKnown}
 
 -- ---- the story

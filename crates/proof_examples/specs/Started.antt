@@ -44,7 +44,7 @@ module _ (s t : List ℕ) (n : ℕ) (cells : length s ≡ n) (large : leb 64 n �
   unfolding view
   fresh-leaves-nothing = ap (λ (o : Outcome Lent). viewOn (o .after)) starts ∙ (λ i. model (cells i) (viewHouse s (fresh-says (freshSegments n) i)))
 
-  fresh-leaves-state : stateOf (afterCall fresh (lent s t)) ≡ state s (freshHouse n)
+  pub fresh-leaves-state : stateOf (afterCall fresh (lent s t)) ≡ state s (freshHouse n)
   fresh-leaves-state = ap (λ (o : Outcome Lent). stateOf (o .after)) starts ∙ ap (state s) (fresh-says (freshSegments n))
 
 -- ---- over so many zero cells: where the stories that show a premise needed begin
