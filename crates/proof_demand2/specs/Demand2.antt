@@ -6,14 +6,14 @@ use mathlib.Core.List.{List, [], _∷_}
 use lib.ListN.{length}
 use Rattle.combine.specs.laws.Below.{not-both}
 use Rattle.placing.specs.Sizes.{tablesLength}
-use Rattle.rules.specs.Calls.{fresh, save, load, count, on}
+use Rattle.rules.specs.Calls.{Call, fresh, save, load, count, on}
 use Rattle.tables.specs.laws.Sound.{ranged-of}
 use Rattle.cells.specs.Outcomes.{Lent}
 use Rattle.model.specs.Model.{Model}
-use Rattle.model.specs.Step.{Report, step}
+use Rattle.model.specs.Step.{Report, step, stepTold}
 use Rattle.model.specs.View.{filesIn}
 use Rattle.proof_calls_sound.specs.Keeps.{keeps-sound}
-use Rattle.demands.specs.History.{Seen, afterCall, viewOn, seenAll, modelTold, modelFinal}
+use Rattle.demands.specs.History.{Seen, outcomeOn, afterCall, toldOf, viewOn, seenAll, modelTold, modelFinal}
 use Rattle.demands.specs.Demands.{Sound, Demand2, Demand2Start, Demand2History}
 use Rattle.proof_demand2.specs.Calls.{request-agreed, count-agreed, fresh-agreed, load-agreed}
 use Rattle.proof_demand2.specs.Saves.{save-refines}
@@ -47,15 +47,26 @@ demand2 (on u e r) x sound =
     let a = request-agreed (x .store) (x .tables) sound r u e in
     λ i. (record { answer = a .answer i; image = none }, a .after i)
 
+-- ---- of a call, part by part
+
+module _ (c : Call) (x : Lent) (sound : Sound x) where
+  pub told-known : toldOf c x ≡ stepTold (filesIn (x .store)) c (viewOn x)
+  told-known = ap (λ (p : Report × Model). p .0) (demand2 c x sound)
+
+  pub answer-known : outcomeOn c x .answer ≡ step (filesIn (x .store)) c (viewOn x) .answer
+  answer-known = ap (λ (r : Report). r .answer) told-known
+
+  pub after-known : viewOn (afterCall c x) ≡ step (filesIn (x .store)) c (viewOn x) .after
+  after-known = ap (λ (p : Report × Model). p .1) (demand2 c x sound)
+
 -- ---- over histories
 
 pub demand2-history : Demand2History
 demand2-history [] x sound = (refl, refl)
 demand2-history (c ∷ cs) x sound =
-    let one = demand2 c x sound in
     let later = demand2-history cs (afterCall c x) (keeps-sound c x sound) in
     let seen : List Seen = seenAll cs (afterCall c x) in
-    let known : viewOn (afterCall c x) ≡ step (filesIn (x .store)) c (viewOn x) .after = ap (λ (p : Report × Model). p .1) one in (
-      ap₂ {C = List Report} (λ a l. a ∷ l) (ap (λ (p : Report × Model). p .0) one) (later .0 ∙ ap (modelTold seen) known),
+    let known = after-known c x sound in (
+      ap₂ {C = List Report} (λ a l. a ∷ l) (told-known c x sound) (later .0 ∙ ap (modelTold seen) known),
       later .1 ∙ ap (modelFinal seen) known,
     )

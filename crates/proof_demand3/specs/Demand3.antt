@@ -24,9 +24,10 @@ use Rattle.demands.specs.History.{outcomeOn, afterCall, toldOf, viewOn, final}
 use Rattle.demands.specs.Demands.{Sound}
 use Rattle.demands.specs.laws.Unsound.{refuses-unsound}
 use Rattle.demands.specs.Abandoning.{Fate, allStay, strike, openingCall, abandoning, whole, rest, NoLoad, Demand3}
+use Rattle.proof_demand2.specs.Demand2.{answer-known, after-known}
 use Rattle.proof_demand3.specs.Eased.{emptied}
 use Rattle.proof_demand3.specs.Own.{Begun, begun, request-own, emptied-closed}
-use Rattle.proof_demand3.specs.Beside.{answer-known, after-known, Beside}
+use Rattle.proof_demand3.specs.Beside.{Beside}
 use Rattle.proof_demand3.specs.Histories.{Alike, between-alike}
 
 -- ---- one history after another

@@ -8,6 +8,7 @@ pub mod Beside
 pub mod Histories
 pub mod Demand3
 pub mod Premises
+pub mod Started
 pub mod Answers
 pub mod Told
 pub mod ButOne

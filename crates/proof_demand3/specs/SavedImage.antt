@@ -20,7 +20,7 @@ use Rattle.proof_calls_sound.specs.Keeps.{sound-final, length-final}
 use Rattle.demands.specs.History.{final}
 use Rattle.demands.specs.Demands.{Sound}
 use Rattle.examples.specs.Examples.{makesFileA, imageWithA}
-use Rattle.proof_examples.specs.Started.{startedOver, started-sound, started-state}
+use Rattle.proof_demand3.specs.Started.{startedOver, started-sound, started-state}
 use Rattle.proof_examples.specs.Saved.{after-says, after-image}
 use Rattle.proof_examples.specs.Worked.{houseWithA, leads-to-a, packed-a}
 

@@ -32,7 +32,7 @@ use Rattle.proof_calls_sound.specs.Keeps.{sound-final}
 use Rattle.demands.specs.History.{afterCall, final}
 use Rattle.demands.specs.Demands.{Sound}
 use Rattle.examples.specs.Examples.{SavesAfter}
-use Rattle.proof_examples.specs.Started.{fresh-leaves-sound, fresh-leaves-state}
+use Rattle.proof_examples.specs.Fresh.{fresh-leaves-sound, fresh-leaves-state}
 use Rattle.proof_examples.specs.OnSegments.{stateAfter, goesOn, state-known}
 
 -- ---- the image of sound tables, by what they say
@@ -72,6 +72,7 @@ module _ (g : SegmentHouse) (calls : List Call) (h : SegmentHouse) (w : Leads g 
 
 pub saves-after : (n : ℕ) (calls : List Call) (h : SegmentHouse) (image : Cells) → leb 64 n ≡ true → Leads (freshHouse n) calls h → imageBy h ≡ image
     → SavesAfter n (fresh ∷ calls) image
+unfolding SavesAfter
 saves-after n calls h image large w e s t buffer cells long fits =
     let x = afterCall fresh (lent s t) in
     let sound = fresh-leaves-sound s t n cells large long in

@@ -1,11 +1,11 @@
--- The cells that a fresh start leaves: they are sound, nothing is there, and nothing is open. Assumes nothing.
+-- The cells that a fresh start leaves, whatever they were before: they are sound, nothing is there, and nothing is open. Assumes nothing.
 use Prim.Native.Nat.{ℕ}
 use mathlib.Core.Path.{_≡_, refl, sym, ap, _∙_, subst}
 use mathlib.Core.Bool.{true}
 use mathlib.Core.List.{List}
 use borrow.Author.Tests.{eq-eqb, leb-true}
 use lib.Dec.{leb}
-use lib.ListN.{length, replicate, length-replicate}
+use lib.ListN.{length}
 use Rattle.combine.specs.Verdict.{done, refuse_when_else_}
 use Rattle.combine.specs.Outcome.{Outcome, outcomeOf, settle}
 use Rattle.placing.specs.Sizes.{freshSegments, tablesLength}
@@ -21,19 +21,20 @@ use Rattle.cells.specs.laws.Lowered.{stateOf}
 use Rattle.model.specs.Model.{Model, model}
 use Rattle.model.specs.View.{viewHouse, view}
 use Rattle.proof_calls_sound.specs.Fresh.{fresh-tables-sound}
-use Rattle.demands.specs.History.{afterCall, viewOn}
+use Rattle.demands.specs.History.{outcomeOn, afterCall, viewOn}
 use Rattle.demands.specs.Demands.{Sound}
 
 -- what users know then of a store of so many cells
 abbrev pub nothingThere : ℕ → Model
 nothingThere n = model n (freshHouse n)
 
--- ---- whatever the cells were before
-
 module _ (s t : List ℕ) (n : ℕ) (cells : length s ≡ n) (large : leb 64 n ≡ true) (long : length t ≡ tablesLength) where
   starts : freshOut s t ≡ outcomeOf (done 0) (lent s (freshTables (freshSegments n)))
   unfolding freshOut startGate settle refuse_when_else_
   starts = rw (eq-eqb (length t) tablesLength long, cells, large) refl
+
+  pub fresh-is-done : outcomeOn fresh (lent s t) .answer ≡ done 0
+  fresh-is-done = ap (λ (o : Outcome Lent). o .answer) starts
 
   pub fresh-leaves-sound : Sound (afterCall fresh (lent s t))
   fresh-leaves-sound =
@@ -46,27 +47,3 @@ module _ (s t : List ℕ) (n : ℕ) (cells : length s ≡ n) (large : leb 64 n �
 
   pub fresh-leaves-state : stateOf (afterCall fresh (lent s t)) ≡ state s (freshHouse n)
   fresh-leaves-state = ap (λ (o : Outcome Lent). stateOf (o .after)) starts ∙ ap (state s) (fresh-says (freshSegments n))
-
--- ---- over so many zero cells: where the stories that show a premise needed begin
-
-unfoldable pub startedOver : ℕ → Lent
-startedOver n = afterCall fresh (lent (replicate n 0) (replicate tablesLength 0))
-
-module _ (n : ℕ) (large : leb 64 n ≡ true) where
-  cells : length (replicate {A = ℕ} n 0) ≡ n
-  cells = length-replicate {A = ℕ} n 0
-
-  long : length (replicate {A = ℕ} tablesLength 0) ≡ tablesLength
-  long = length-replicate {A = ℕ} tablesLength 0
-
-  pub started-sound : Sound (startedOver n)
-  unfolding startedOver
-  started-sound = fresh-leaves-sound (replicate n 0) (replicate tablesLength 0) n cells large long
-
-  pub started-known : viewOn (startedOver n) ≡ nothingThere n
-  unfolding startedOver
-  started-known = fresh-leaves-nothing (replicate n 0) (replicate tablesLength 0) n cells large long
-
-  pub started-state : stateOf (startedOver n) ≡ state (replicate n 0) (freshHouse n)
-  unfolding startedOver
-  started-state = fresh-leaves-state (replicate n 0) (replicate tablesLength 0) n cells large long
