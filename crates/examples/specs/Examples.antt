@@ -1,28 +1,57 @@
 -- The worked examples that document 01 marks, as one list. Assumes nothing.
-use Prim.Native.Nat.{ℕ}
+use Prim.Native.Nat.{ℕ, _*_}
 use mathlib.Core.Path.{_≡_}
 use mathlib.Core.Bool.{false}
-use mathlib.Core.List.{List, [], _∷_}
-use lib.ListN.{replicate}
+use mathlib.Core.List.{List, [], _∷_, map}
+use lib.ListN.{length, replicate}
 use Rattle.combine.specs.Verdict.{Said, done, refused}
+use Rattle.combine.specs.Outcome.{outcomeOf}
+use Rattle.placing.specs.Sizes.{Cells, segmentCells, tablesLength}
 use Rattle.placing.specs.Placing.{segment, position, heldOf, claimOf}
 use Rattle.store.specs.Store.{putElement}
-use Rattle.names.specs.Names.{nameOf}
-use Rattle.rules.specs.Calls.{new, work, read, rename, newPointer, write, next, prev, askBegin, askEnd, opens, closes, abandons, uses}
-use Rattle.examples.specs.Run.{answersIn, imageIn}
+use Rattle.names.specs.Names.{Bytes, nameOf}
+use Rattle.rules.specs.Calls.{new, work, read, rename, newPointer, write, next, prev, askBegin, askEnd, Request, opens, closes, abandons, uses, Call, fresh, starts, on}
+use Rattle.image.specs.Image.{form1, imageLength}
+use Rattle.cells.specs.Outcomes.{Lent, lent, saved, saveOut}
+use Rattle.demands.specs.History.{outcomeOn, afterCall, final}
 
--- what the definitions give, and what document 01 says
+-- ---- what is said of calls one after another, over a store of so many cells: whatever it, the tables and an image buffer held before
+
+-- the calls are answered so
+abbrev pub answersOn : List Call → Lent → List Said
+answersOn [] x = []
+answersOn (c ∷ cs) x = outcomeOn c x .answer ∷ answersOn cs (afterCall c x)
+
+unfoldable pub AnswersSo : (cells : ℕ) (calls : List Call) (said : List Said) → Type 0
+AnswersSo n calls said = (store tables : Cells) → length store ≡ n → length tables ≡ tablesLength → answersOn calls (lent store tables) ≡ said
+
+-- a save after the calls is done, leaves the image in the buffer, and store and tables as the calls left them
+unfoldable pub SavesAfter : (cells : ℕ) (calls : List Call) (image : Cells) → Type 0
+SavesAfter n calls image =
+    (store tables buffer : Cells) → length store ≡ n → length tables ≡ tablesLength → length buffer ≡ imageLength form1
+    → let x = final calls (lent store tables) in
+    saveOut (x .store) (x .tables) buffer ≡ outcomeOf (done 0) (saved (x .store) (x .tables) image)
+
+-- ---- what is said of that, and of numbers that the definitions give
+
 pub data Example : Type 0 where
   numbers : (given said : List ℕ) → Example
-  answered : (given said : List Said) → Example
+  answers : (cells : ℕ) (calls : List Call) (said : List Said) → Example
+  saves : (cells : ℕ) (calls : List Call) (image : Cells) → Example
 
 abbrev pub Holds : Example → Type 0
 Holds (numbers given said) = given ≡ said
-Holds (answered given said) = given ≡ said
+Holds (answers n calls said) = AnswersSo n calls said
+Holds (saves n calls image) = SavesAfter n calls image
 
 abbrev pub AllHold : List Example → Type 0
 AllHold [] = Unit {0}
 AllHold (x ∷ xs) = Holds x × AllHold xs
+
+-- ---- the examples; a user's calls are of user 2 by entry 0
+
+abbrev pub asked : List Request → List Call
+asked rs = map (on 2 0) rs
 
 -- "lift 7" is 21 18 15 29 7 and seven 63s; "Lift" is empty
 abbrev pub lift7 : Example
@@ -37,7 +66,7 @@ ten = numbers (putElement (replicate 64 0) 2 (segment 0) (position 10) 10) (0 �
 
 -- writing 300 in species 3 stores 44
 abbrev pub loses : Example
-loses = answered (answersIn 64 (opens (new 3) ∷ uses (write 1 300) ∷ uses (next 2) ∷ [])) (done 0 ∷ done 0 ∷ done 44 ∷ [])
+loses = answers segmentCells (starts fresh ∷ asked (opens (new 3) ∷ uses (write 1 300) ∷ uses (next 2) ∷ [])) (done 0 ∷ done 0 ∷ done 0 ∷ done 44 ∷ [])
 
 -- width 32, b = 64, e = 66: two segments, claim 65; b = e = 65: none, claim 0
 abbrev pub claims : Example
@@ -46,36 +75,44 @@ claims = numbers (heldOf 5 64 66 ∷ claimOf 5 64 66 ∷ heldOf 5 65 65 ∷ clai
 -- append 10, 20 to a new file of species 5; prev through 1 gives 20, then 10, then refusal 6
 abbrev pub appends : Example
 appends =
-    answered (answersIn 64 (opens (new 5) ∷ uses (write 1 10) ∷ uses (write 1 20) ∷ uses (prev 1) ∷ uses (prev 1) ∷ uses (prev 1) ∷ []))
-    (done 0 ∷ done 0 ∷ done 0 ∷ done 20 ∷ done 10 ∷ refused 6 ∷ [])
+    answers segmentCells (starts fresh ∷ asked (opens (new 5) ∷ uses (write 1 10) ∷ uses (write 1 20) ∷ uses (prev 1) ∷ uses (prev 1) ∷ uses (prev 1) ∷ []))
+    (done 0 ∷ done 0 ∷ done 0 ∷ done 0 ∷ done 20 ∷ done 10 ∷ refused 6 ∷ [])
 
 -- own pointer at e, work permit, file not empty: write is 7, prev delivers position e-1 and the length stays
 abbrev pub ownPointer : Example
 ownPointer =
-    answered
-    (answersIn 64
+    answers segmentCells
+    (starts fresh ∷ asked
     (opens (new 5) ∷ uses (write 1 10) ∷ uses (write 1 20) ∷ uses (newPointer 1) ∷ uses (write 3 30) ∷ uses (prev 3) ∷ uses askBegin ∷ uses askEnd ∷ []))
-    (done 0 ∷ done 0 ∷ done 0 ∷ done 3 ∷ refused 7 ∷ done 20 ∷ done 1 ∷ done 3 ∷ [])
+    (done 0 ∷ done 0 ∷ done 0 ∷ done 0 ∷ done 3 ∷ refused 7 ∷ done 20 ∷ done 1 ∷ done 3 ∷ [])
 
 -- fresh with 128 segments, saved: 0x01100000, then 896 zero cells
 abbrev pub savedFresh : Example
-savedFresh = numbers (imageIn 8192 []) (0x01100000 ∷ replicate 896 0)
+savedFresh = saves (segmentCells * 128) (starts fresh ∷ []) (0x01100000 ∷ replicate 896 0)
 
--- that store with one private file "a" of user 2, species 5, b = 1, e = 2, segment 0
+-- that store with one private file "a" of user 2, species 5, b = 1, e = 2, segment 0: cells 0x01100000, 0x95FFFFFF, 0xFFFFFFFF, 0xFFAD0000,
+-- 0x01000002, then 892 zeros
+abbrev pub bytesOfA : Bytes
+bytesOfA = 97 ∷ []
+
+abbrev pub makesFileA : List Call
+makesFileA = asked (opens (new 5) ∷ uses (write 1 10) ∷ uses (rename bytesOfA) ∷ closes false ∷ [])
+
+abbrev pub imageWithA : Cells
+imageWithA = 0x01100000 ∷ 0x95FFFFFF ∷ 0xFFFFFFFF ∷ 0xFFAD0000 ∷ 0x01000002 ∷ replicate 892 0
+
 abbrev pub savedFile : Example
-savedFile =
-    numbers (imageIn 8192 (opens (new 5) ∷ uses (write 1 10) ∷ uses (rename (97 ∷ [])) ∷ closes false ∷ []))
-    (0x01100000 ∷ 0x95FFFFFF ∷ 0xFFFFFFFF ∷ 0xFFAD0000 ∷ 0x01000002 ∷ replicate 892 0)
+savedFile = saves (segmentCells * 128) (starts fresh ∷ makesFileA) imageWithA
 
 -- file 10, 20 opened for work, prev through 1, append 99, abandon: read gives 10, 20
 abbrev pub givenUp : Example
 givenUp =
-    answered
-    (answersIn 128
-    (opens (new 5) ∷ uses (write 1 10) ∷ uses (write 1 20) ∷ uses (rename (97 ∷ [])) ∷ closes false
-    ∷ opens (work (97 ∷ [])) ∷ uses (prev 1) ∷ uses (write 1 99) ∷ abandons
-    ∷ opens (read (97 ∷ [])) ∷ uses (next 2) ∷ uses (next 2) ∷ []))
-    (done 0 ∷ done 0 ∷ done 0 ∷ done 0 ∷ done 0 ∷ done 0 ∷ done 20 ∷ done 0 ∷ done 0 ∷ done 0 ∷ done 10 ∷ done 20 ∷ [])
+    answers (segmentCells * 2)
+    (starts fresh ∷ asked
+    (opens (new 5) ∷ uses (write 1 10) ∷ uses (write 1 20) ∷ uses (rename bytesOfA) ∷ closes false
+    ∷ opens (work bytesOfA) ∷ uses (prev 1) ∷ uses (write 1 99) ∷ abandons
+    ∷ opens (read bytesOfA) ∷ uses (next 2) ∷ uses (next 2) ∷ []))
+    (done 0 ∷ done 0 ∷ done 0 ∷ done 0 ∷ done 0 ∷ done 0 ∷ done 0 ∷ done 20 ∷ done 0 ∷ done 0 ∷ done 0 ∷ done 10 ∷ done 20 ∷ [])
 
 abbrev pub worked : List Example
 worked = lift7 ∷ lift ∷ ten ∷ loses ∷ claims ∷ appends ∷ ownPointer ∷ savedFresh ∷ savedFile ∷ givenUp ∷ []

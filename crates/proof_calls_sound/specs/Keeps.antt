@@ -3,7 +3,7 @@ use Prim.Native.Nat.{ℕ}
 use mathlib.Core.Path.{_≡_, refl, sym, ap, _∙_, subst}
 use mathlib.Core.Logic.{⊎-elim}
 use mathlib.Core.Bool.{true, false}
-use mathlib.Core.List.{List}
+use mathlib.Core.List.{List, [], _∷_}
 use lib.ListN.{length, getD}
 use Rattle.combine.specs.laws.Below.{split-bool, not-both}
 use Rattle.combine.specs.Verdict.{isDone}
@@ -12,7 +12,7 @@ use Rattle.rules.specs.Calls.{fresh, load, Call, starts, asks, on}
 use Rattle.tables.specs.laws.Sound.{ranged-of}
 use Rattle.cells.specs.Outcomes.{Lent, soundLent}
 use Rattle.cells.specs.laws.Operator.{fresh-keeps-store, load-keeps-store}
-use Rattle.demands.specs.History.{outcomeOn}
+use Rattle.demands.specs.History.{outcomeOn, afterCall, final}
 use Rattle.demands.specs.Demands.{Sound, KeepsSound, DoneIsSound, KeepsLengths, KeepsBeyond, isStart}
 use Rattle.demands.specs.laws.Unsound.{refuses-unsound}
 use Rattle.proof_requests_agree.specs.Requests.{request-store-length, request-tables-length, request-sound, request-beyond}
@@ -67,3 +67,13 @@ keeps-beyond (starts fresh) x ok k l = ap (λ (s : List ℕ). getD s k 0) (fresh
 keeps-beyond (asks q) x ok k l = refl
 keeps-beyond (starts (load img)) x ok k l = ap (λ (s : List ℕ). getD s k 0) (load-keeps-store (x .store) (x .tables) img)
 keeps-beyond (on u e r) x ok k l = request-beyond r (x .store) (x .tables) u e ok k l
+
+-- ---- over histories
+
+pub sound-final : (cs : List Call) (x : Lent) → Sound x → Sound (final cs x)
+sound-final [] x s = s
+sound-final (c ∷ cs) x s = sound-final cs (afterCall c x) (keeps-sound c x s)
+
+pub length-final : (cs : List Call) (x : Lent) → length (final cs x .store) ≡ length (x .store)
+length-final [] x = refl
+length-final (c ∷ cs) x = length-final cs (afterCall c x) ∙ keeps-lengths c x .0

@@ -14,11 +14,11 @@ use Rattle.rules.specs.Calls.{Start, fresh, load, save, count, Call, starts, as
 use Rattle.tables.specs.laws.Sound.{ranged-of}
 use Rattle.cells.specs.Outcomes.{Lent, lengthsb}
 use Rattle.model.specs.Model.{Model}
-use Rattle.model.specs.Step.{Report, step}
+use Rattle.model.specs.Step.{Report, step, stepTold}
 use Rattle.model.specs.View.{filesIn}
 use Rattle.proof_calls_sound.specs.Starts.{right-length}
 use Rattle.proof_calls_sound.specs.Keeps.{keeps-sound, done-is-sound}
-use Rattle.demands.specs.History.{Seen, outcomeOn, afterCall, viewOn, seenAll, modelTold, modelFinal}
+use Rattle.demands.specs.History.{Seen, outcomeOn, afterCall, toldOf, viewOn, seenAll, modelTold, modelFinal}
 use Rattle.demands.specs.Demands.{Sound, Refines, Demand2, Demand2Start, RefinesAll, Demand2History, Demand2FromStart}
 use Rattle.demands.specs.laws.Unsound.{refuses-lengths}
 use Rattle.proof_demand2.specs.Calls.{request-agreed, count-agreed, fresh-agreed, load-agreed}
@@ -43,6 +43,18 @@ demand2 (asks (count u)) x sound = λ i. (record { answer = count-agreed (x .sto
 demand2 (on u e r) x sound =
     let a = request-agreed (x .store) (x .tables) sound r u e in
     λ i. (record { answer = a .answer i; image = none }, a .after i)
+
+-- ---- of a call, part by part
+
+module _ (c : Call) (x : Lent) (sound : Sound x) where
+  pub told-known : toldOf c x ≡ stepTold (filesIn (x .store)) c (viewOn x)
+  told-known = ap (λ (p : Report × Model). p .0) (demand2 c x sound)
+
+  pub answer-known : outcomeOn c x .answer ≡ step (filesIn (x .store)) c (viewOn x) .answer
+  answer-known = ap (λ (r : Report). r .answer) told-known
+
+  pub after-known : viewOn (afterCall c x) ≡ step (filesIn (x .store)) c (viewOn x) .after
+  after-known = ap (λ (p : Report × Model). p .1) (demand2 c x sound)
 
 -- ---- over histories
 

@@ -1,49 +1,21 @@
--- What a history is answered, call by call: on cells, and as users know it where no image is loaded; and what the answers show of a story.
--- Assumes nothing.
+-- What the answers of a history show of a story. Assumes nothing.
 use Prim.Native.Nat.{ℕ}
-use mathlib.Core.Path.{_≡_, refl, sym, ap, ap₂, _∙_}
-use mathlib.Core.Bool.{Bool, true, not}
+use mathlib.Core.Path.{_≡_, sym, ap, _∙_}
+use mathlib.Core.Bool.{Bool, true}
 use mathlib.Core.Option.{none}
 use mathlib.Core.List.{List, [], _∷_}
 use lib.Dec.{T, leb}
 use lib.ListN.{getD}
-use Rattle.combine.specs.Verdict.{Said, done, refuse_when_else_}
-use Rattle.combine.specs.Outcome.{settle}
-use Rattle.names.specs.Names.{symbolsOf, nameOf, scratchName, isScratch}
-use Rattle.placing.specs.Placing.{stretchOf, offsetOf, heldOf, claimOf, slotOf}
-use Rattle.placing.specs.Sizes.{widthOf, elementsOf}
+use Rattle.combine.specs.Verdict.{Said, done}
 use Rattle.rules.specs.Calls.{Call}
-use Rattle.rules.specs.Access.{writeRule, nextRule, renameRule}
-use Rattle.rules.specs.Rules.{lookUp, openNew, openedAs, openOld, headed, closeRule}
-use Rattle.rules.specs.Gates.{userGate, entryGate, startGate, imageGate}
 use Rattle.cells.specs.Outcomes.{Lent}
-use Rattle.model.specs.Model.{Model, free}
-use Rattle.model.specs.Step.{Report, step, requestOnModel}
-use Rattle.proof_calls_sound.specs.Keeps.{keeps-sound}
-use Rattle.proof_requests_sound.specs.Tests.{and-first, and-second}
-use Rattle.demands.specs.History.{outcomeOn, afterCall, viewOn, toldAll}
-use Rattle.demands.specs.Demands.{Sound}
-use Rattle.demands.specs.Abandoning.{isLoad, heard, Story, whole, rest, wholeFates, restFates, NoTrace}
-use Rattle.proof_demand3.specs.Premises.{blind, noLoadb, answer-blind, after-blind}
-use Rattle.proof_demand3.specs.Started.{nothingThere, startedOver, started-sound, started-known}
-
-abbrev pub answersOn : List Call → Lent → List Said
-answersOn [] x = []
-answersOn (c ∷ cs) x = outcomeOn c x .answer ∷ answersOn cs (afterCall c x)
-
--- what unfolds this unfolds every definition that the answers rest on
-unfoldable pub answersKnown : List Call → Model → List Said
-unfolding refuse_when_else_ settle symbolsOf nameOf scratchName isScratch stretchOf offsetOf heldOf claimOf slotOf widthOf elementsOf writeRule nextRule renameRule lookUp openNew openedAs openOld headed closeRule userGate entryGate startGate imageGate free requestOnModel
-answersKnown [] m = []
-answersKnown (c ∷ cs) m = step blind c m .answer ∷ answersKnown cs (step blind c m .after)
-
-answers-known : (cs : List Call) (x : Lent) → Sound x → T (noLoadb cs) → answersOn cs x ≡ answersKnown cs (viewOn x)
-unfolding answersKnown
-answers-known [] x s n = refl
-answers-known (c ∷ cs) x s n =
-    let one = and-first (not (isLoad c)) (noLoadb cs) n in
-    let later = answers-known cs (afterCall c x) (keeps-sound c x s) (and-second (not (isLoad c)) (noLoadb cs) n) in
-    ap₂ {C = List Said} (λ a l. a ∷ l) (answer-blind c x s one) (later ∙ ap (answersKnown cs) (after-blind c x s one))
+use Rattle.model.specs.Step.{Report}
+use Rattle.demands.specs.History.{toldAll}
+use Rattle.demands.specs.Abandoning.{heard, Story, whole, rest, wholeFates, restFates, NoTrace}
+use Rattle.examples.specs.Examples.{answersOn}
+use Rattle.proof_examples.specs.Fresh.{nothingThere}
+use Rattle.proof_examples.specs.Known.{noLoadb, answersKnown, answers-known}
+use Rattle.proof_demand3.specs.Started.{startedOver, started-sound, started-known}
 
 -- after a fresh start over so many zero cells
 pub answers-started : (n : ℕ) → leb 64 n ≡ true → (cs : List Call) → T (noLoadb cs) → answersOn cs (startedOver n) ≡ answersKnown cs (nothingThere n)

@@ -23,22 +23,10 @@ use Rattle.proof_calls_sound.specs.Keeps.{keeps-sound}
 use Rattle.demands.specs.History.{outcomeOn, afterCall, toldOf, viewOn}
 use Rattle.demands.specs.Demands.{Sound}
 use Rattle.demands.specs.Abandoning.{isOn, ending, quiet, isLoad}
-use Rattle.proof_demand2.specs.Demand2.{demand2}
+use Rattle.proof_demand2.specs.Demand2.{told-known, answer-known, after-known}
 use Rattle.proof_demand3.specs.Eased.{emptied}
 use Rattle.proof_demand3.specs.Own.{request-own, abandoned}
 use Rattle.proof_demand3.specs.Steps.{SameLook, ToldAlike, Carried, step-another, step-alike}
-
--- ---- what demand 2 says of a call, part by part
-
-module _ (c : Call) (x : Lent) (sound : Sound x) where
-  pub told-known : toldOf c x ≡ stepTold (filesIn (x .store)) c (viewOn x)
-  told-known = ap (λ (p : Report × Model). p .0) (demand2 c x sound)
-
-  pub answer-known : outcomeOn c x .answer ≡ step (filesIn (x .store)) c (viewOn x) .answer
-  answer-known = ap (λ (r : Report). r .answer) told-known
-
-  pub after-known : viewOn (afterCall c x) ≡ step (filesIn (x .store)) c (viewOn x) .after
-  after-known = ap (λ (p : Report × Model). p .1) (demand2 c x sound)
 
 -- whether an image is sound is seen by the store's length
 look-length : (s : List ℕ) (img : List ℕ) → isSome (filesIn s img) ≡ imageb form1 (length s) img

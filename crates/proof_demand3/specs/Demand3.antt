@@ -18,15 +18,16 @@ use Rattle.model.specs.Model.{Model, free}
 use Rattle.model.specs.Step.{Report}
 use Rattle.model.specs.View.{view}
 use Rattle.proof_cells_agree.specs.SoundSays.{sound-says}
-use Rattle.proof_calls_sound.specs.Keeps.{keeps-sound}
+use Rattle.proof_calls_sound.specs.Keeps.{keeps-sound, sound-final}
 use Rattle.proof_model.specs.Counted.{free-seen}
 use Rattle.demands.specs.History.{outcomeOn, afterCall, toldOf, viewOn, final}
 use Rattle.demands.specs.Demands.{Sound}
 use Rattle.demands.specs.laws.Unsound.{refuses-unsound}
 use Rattle.demands.specs.Abandoning.{Fate, allStay, strike, openingCall, abandoning, whole, rest, NoLoad, Demand3}
+use Rattle.proof_demand2.specs.Demand2.{answer-known, after-known}
 use Rattle.proof_demand3.specs.Eased.{emptied}
 use Rattle.proof_demand3.specs.Own.{Begun, begun, request-own, emptied-closed}
-use Rattle.proof_demand3.specs.Beside.{answer-known, after-known, Beside}
+use Rattle.proof_demand3.specs.Beside.{Beside}
 use Rattle.proof_demand3.specs.Histories.{Alike, between-alike}
 
 -- ---- one history after another
@@ -34,10 +35,6 @@ use Rattle.proof_demand3.specs.Histories.{Alike, between-alike}
 final-joined : (cs ds : List Call) (x : Lent) → final (cs ++ ds) x ≡ final ds (final cs x)
 final-joined [] ds x = refl
 final-joined (c ∷ cs) ds x = final-joined cs ds (afterCall c x)
-
-pub sound-final : (cs : List Call) (x : Lent) → Sound x → Sound (final cs x)
-sound-final [] x s = s
-sound-final (c ∷ cs) x s = sound-final cs (afterCall c x) (keeps-sound c x s)
 
 -- before the opening the two histories are the same
 before-alike : (bs cs ds : List Call) (x : Lent) (f g : List Fate) → Alike cs ds (final bs x) (final bs x) f g → Alike (bs ++ cs) (bs ++ ds) x x (allStay bs ++ f) (allStay bs ++ g)

@@ -14,6 +14,5 @@ pub mod Told
 pub mod ButOne
 pub mod Needed9
 pub mod Needed14
-pub mod OnSegments
 pub mod SavedImage
 pub mod NeededLoad

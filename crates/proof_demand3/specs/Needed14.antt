@@ -10,8 +10,11 @@ use Rattle.combine.specs.laws.Below.{not-both}
 use Rattle.combine.specs.Verdict.{Said, done, refused, isDone}
 use Rattle.rules.specs.Calls.{new, work, read, rename, opens, closes, uses, on}
 use Rattle.demands.specs.Abandoning.{Story, whole, rest, NoTrace}
-use Rattle.proof_demand3.specs.Started.{nothingThere, startedOver}
-use Rattle.proof_demand3.specs.Answers.{answersOn, answersKnown, answers-started, Passed, answered-otherwise}
+use Rattle.examples.specs.Examples.{answersOn}
+use Rattle.proof_examples.specs.Fresh.{nothingThere}
+use Rattle.proof_examples.specs.Known.{answersKnown}
+use Rattle.proof_demand3.specs.Started.{startedOver}
+use Rattle.proof_demand3.specs.Answers.{answers-started, Passed, answered-otherwise}
 use Rattle.proof_demand3.specs.ButOne.{quietBut, AbandonedBut}
 
 abbrev fileA : List ℕ

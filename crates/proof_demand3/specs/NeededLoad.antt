@@ -21,16 +21,19 @@ use Rattle.cells.specs.Outcomes.{Lent}
 use Rattle.cells.specs.laws.Lowered.{stateOf}
 use Rattle.proof_images.specs.Done.{load-done}
 use Rattle.proof_requests_agree.specs.Agrees.{request-agrees}
-use Rattle.proof_calls_sound.specs.Keeps.{keeps-sound}
+use Rattle.proof_calls_sound.specs.Keeps.{keeps-sound, sound-final}
 use Rattle.demands.specs.History.{outcomeOn, afterCall, final}
 use Rattle.demands.specs.Demands.{Sound}
 use Rattle.demands.specs.Abandoning.{quiet, Story, openingCall, abandoning, NoTrace}
-use Rattle.proof_demand3.specs.Demand3.{sound-final}
-use Rattle.proof_demand3.specs.Started.{nothingThere, startedOver, started-sound, started-state}
-use Rattle.proof_demand3.specs.Answers.{answersOn, answersKnown, answers-started, Passed, answered-otherwise}
+use Rattle.proof_examples.specs.Fresh.{nothingThere}
+use Rattle.proof_examples.specs.Known.{answersKnown}
+use Rattle.proof_demand3.specs.Started.{startedOver, started-sound, started-state}
+use Rattle.proof_demand3.specs.Answers.{answers-started, Passed, answered-otherwise}
 use Rattle.proof_demand3.specs.ButOne.{AbandonedThenLoaded}
-use Rattle.proof_demand3.specs.OnSegments.{stateAfter, goesOn, state-known}
-use Rattle.proof_demand3.specs.SavedImage.{cells-after, bytesOfA, makesFileA, houseWithA, imageWithA, buffer, image-sound, image-says}
+use Rattle.examples.specs.Examples.{answersOn, bytesOfA, makesFileA, imageWithA}
+use Rattle.proof_examples.specs.OnSegments.{stateAfter, goesOn, state-known}
+use Rattle.proof_examples.specs.Worked.{houseWithA}
+use Rattle.proof_demand3.specs.SavedImage.{cells-after, buffer, image-sound, image-says}
 
 abbrev opensA : Call
 opensA = on 2 0 (opens (read bytesOfA))

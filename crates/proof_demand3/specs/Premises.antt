@@ -2,31 +2,19 @@
 use Prim.Native.Nat.{ℕ}
 use mathlib.Core.Path.{_≡_, refl, sym, ap, _∙_, subst}
 use mathlib.Core.Bool.{Bool, true, false, not, _&&_}
-use mathlib.Core.Option.{none}
 use mathlib.Core.List.{List, [], _∷_}
 use lib.Dec.{T}
 use Rattle.combine.specs.Verdict.{Said, isDone}
-use Rattle.combine.specs.Outcome.{Outcome}
-use Rattle.rules.specs.Calls.{fresh, load, Call, starts, asks, on}
+use Rattle.rules.specs.Calls.{Call}
 use Rattle.cells.specs.Outcomes.{Lent}
 use Rattle.model.specs.Model.{Model}
 use Rattle.model.specs.Step.{step}
-use Rattle.model.specs.View.{filesIn}
 use Rattle.proof_calls_sound.specs.Keeps.{keeps-sound}
 use Rattle.proof_requests_sound.specs.Tests.{and-first, and-second}
-use Rattle.demands.specs.History.{outcomeOn, afterCall, viewOn, final}
+use Rattle.demands.specs.History.{afterCall, viewOn, final}
 use Rattle.demands.specs.Demands.{Sound}
 use Rattle.demands.specs.Abandoning.{quiet, Quiet, isLoad, NoLoad, Story, openingCall, Abandoned}
-use Rattle.proof_demand3.specs.Steps.{Look}
-use Rattle.proof_demand3.specs.Beside.{answer-known, after-known}
-
--- no image is looked at
-abbrev pub blind : Look
-blind img = none
-
-abbrev pub noLoadb : List Call → Bool
-noLoadb [] = true
-noLoadb (c ∷ cs) = not (isLoad c) && noLoadb cs
+use Rattle.proof_examples.specs.Known.{blind, noLoadb, answer-blind, after-blind}
 
 abbrev pub knownAfter : List Call → Model → Model
 knownAfter [] m = m
@@ -35,21 +23,6 @@ knownAfter (c ∷ cs) m = knownAfter cs (step blind c m .after)
 abbrev pub quietb : ℕ → ℕ → List Call → Model → Bool
 quietb u e [] m = true
 quietb u e (c ∷ cs) m = quiet u e c (step blind c m .answer) && quietb u e cs (step blind c m .after)
-
--- ---- one call
-
-step-blind : (f : Look) (c : Call) (m : Model) → T (not (isLoad c)) → step f c m ≡ step blind c m
-step-blind f (starts fresh) m n = refl
-step-blind f (starts (load img)) m n = absurd n
-step-blind f (asks q) m n = refl
-step-blind f (on u e r) m n = refl
-
-module _ (c : Call) (x : Lent) (s : Sound x) (n : T (not (isLoad c))) where
-  pub answer-blind : outcomeOn c x .answer ≡ step blind c (viewOn x) .answer
-  answer-blind = answer-known c x s ∙ ap (λ (o : Outcome Model). o .answer) (step-blind (filesIn (x .store)) c (viewOn x) n)
-
-  pub after-blind : viewOn (afterCall c x) ≡ step blind c (viewOn x) .after
-  after-blind = after-known c x s ∙ ap (λ (o : Outcome Model). o .after) (step-blind (filesIn (x .store)) c (viewOn x) n)
 
 -- ---- histories
 

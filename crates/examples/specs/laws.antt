@@ -1,2 +1,0 @@
--- The laws of this crate's definitions, which other crates cite. Assumes nothing.
-pub mod Worked

@@ -1,0 +1,6 @@
+-- The worked examples hold; and how a history is run above cells. Assumes nothing.
+pub mod Fresh
+pub mod OnSegments
+pub mod Known
+pub mod Saved
+pub mod Worked

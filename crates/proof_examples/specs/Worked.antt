@@ -1,0 +1,92 @@
+-- The worked examples hold: one statement over the list. Each is found by computing: answers as users know the state, images on segments. Assumes
+-- nothing.
+use Prim.Native.Nat.{_*_}
+use mathlib.Core.Path.{_≡_, refl}
+use mathlib.Core.Bool.{true}
+use mathlib.Core.Option.{none, some}
+use mathlib.Core.List.{[], _∷_}
+use lib.ListN.{replicate}
+use Rattle.names.specs.Names.{symbolsOf, nameOf}
+use Rattle.packing.specs.Packing.{putField, putBits}
+use Rattle.placing.specs.Placing.{stretchOf, offsetOf, cellOf, bitOf, heldOf, claimOf}
+use Rattle.placing.specs.Sizes.{segmentCells, entries, widthOf, elementsOf}
+use Rattle.store.specs.Store.{putElement}
+use Rattle.rules.specs.Headings.{filing}
+use Rattle.rules.specs.House.{house, freshHouse}
+use Rattle.segments.specs.Free.{SegmentRecord, SegmentHouse}
+use Rattle.examples.specs.Examples.{Holds, AllHold, lift7, lift, ten, loses, claims, appends, ownPointer, savedFresh, bytesOfA, makesFileA, imageWithA, savedFile, givenUp, worked}
+use Rattle.proof_examples.specs.OnSegments.{stateAfter}
+use Rattle.proof_examples.specs.Known.{answersKnown, answers-after}
+use Rattle.proof_examples.specs.Saved.{imageBy, Leads, saves-after}
+
+-- ---- numbers
+
+lift7-holds : Holds lift7
+unfolding nameOf symbolsOf
+lift7-holds = refl
+
+lift-holds : Holds lift
+unfolding nameOf symbolsOf
+lift-holds = refl
+
+ten-holds : Holds ten
+unfolding putElement putBits putField cellOf bitOf offsetOf elementsOf widthOf
+ten-holds = refl
+
+claims-holds : Holds claims
+unfolding heldOf claimOf stretchOf elementsOf
+claims-holds = refl
+
+-- ---- answers
+
+loses-holds : Holds loses
+unfolding answersKnown
+loses-holds = answers-after segmentCells _ _ refl tt refl
+
+appends-holds : Holds appends
+unfolding answersKnown
+appends-holds = answers-after segmentCells _ _ refl tt refl
+
+own-pointer-holds : Holds ownPointer
+unfolding answersKnown
+own-pointer-holds = answers-after segmentCells _ _ refl tt refl
+
+given-up-holds : Holds givenUp
+unfolding answersKnown
+given-up-holds = answers-after (segmentCells * 2) _ _ refl tt refl
+
+-- ---- saved: fresh with 128 segments
+
+packed-fresh : imageBy (freshHouse (segmentCells * 128)) ≡ 0x01100000 ∷ replicate 896 0
+unfolding imageBy
+packed-fresh = refl
+
+saved-fresh-holds : Holds savedFresh
+unfolding stateAfter
+saved-fresh-holds =
+    saves-after (segmentCells * 128) [] (freshHouse (segmentCells * 128)) _ refl (record { going = tt; leads = λ s. refl }) packed-fresh
+
+-- ---- and with the private file "a" of user 2, species 5, b = 1, e = 2, segment 0
+
+abbrev fileA : SegmentRecord
+fileA = filing (record { owner = 2; name = nameOf bytesOfA; private = true; species = 5; begin = 1; end = 2 }) (0 ∷ [])
+
+abbrev pub houseWithA : SegmentHouse
+houseWithA = house 128 (some fileA ∷ replicate 63 none) (replicate entries none)
+
+pub leads-to-a : Leads (freshHouse (segmentCells * 128)) makesFileA houseWithA
+unfolding stateAfter
+leads-to-a = record { going = tt; leads = λ s. refl }
+
+pub packed-a : imageBy houseWithA ≡ imageWithA
+unfolding imageBy stateAfter
+packed-a = refl
+
+pub saved-file-holds : Holds savedFile
+saved-file-holds = saves-after (segmentCells * 128) makesFileA houseWithA imageWithA refl leads-to-a packed-a
+
+-- ---- all
+
+pub worked-hold : AllHold worked
+worked-hold =
+    (lift7-holds, (lift-holds, (ten-holds, (loses-holds, (claims-holds, (appends-holds, (own-pointer-holds, (saved-fresh-holds, (saved-file-holds, (given-up-holds, tt))))))))))
