@@ -6,7 +6,7 @@ use lib.Dec.{eqb, leb}
 use lib.ListN.{length, getD}
 use Rattle.combine.specs.Verdict.{Said, done, isDone, onDone}
 use Rattle.combine.specs.Outcome.{Outcome, settle}
-use Rattle.placing.specs.Sizes.{Cells, entryOf}
+use Rattle.placing.specs.Sizes.{Cells, leastStore, entryOf}
 use Rattle.image.specs.Image.{form1, imageLength}
 use Rattle.rules.specs.Calls.{Request, Call, fresh, save, load, count, on}
 use Rattle.rules.specs.Headings.{Open, isSome}
@@ -33,9 +33,9 @@ filesOr h none = h
 filesOr h (some f) = f
 
 abbrev pub step : (look : Cells → Option Files) → Call → Model → Outcome Model
-step look fresh m = settle m (startGate (leb 64 (m .cells)) (done (0, model (m .cells) (freshHouse (m .cells)))))
+step look fresh m = settle m (startGate (leb leastStore (m .cells)) (done (0, model (m .cells) (freshHouse (m .cells)))))
 step look (save img) m = settle m (imageGate true (eqb (length img) (imageLength form1)) (done (0, m)))
-step look (load img) m = settle m (imageGate (leb 64 (m .cells)) (isSome (look img)) (done (0, model (m .cells) (filesOr (m .house) (look img)))))
+step look (load img) m = settle m (imageGate (leb leastStore (m .cells)) (isSome (look img)) (done (0, model (m .cells) (filesOr (m .house) (look img)))))
 step look (count u) m = settle m (userGate true u (done (free (m .house), m)))
 step look (on u e r) m = requestOnModel r u e m
 
