@@ -2,6 +2,9 @@
 use answers::Answer;
 use close_choice::Plan;
 use gate::Gate;
+use placing::ALL_POINTERS;
+use placing::LIST_LENGTH;
+use placing::NAME_SYMBOLS;
 use placing::Position;
 use placing::Segment;
 use tables::Opening;
@@ -36,13 +39,13 @@ fn unused_record() -> Record
     let no_segment = Segment::of(0);
     Record {
         used: 0,
-        name: [0; 12],
+        name: [0; NAME_SYMBOLS],
         owner: 0,
         private: 0,
         species: 0,
         begin: none,
         end: none,
-        segments: [no_segment; 32],
+        segments: [no_segment; LIST_LENGTH],
     }
 }
 
@@ -57,9 +60,9 @@ fn closed_opening() -> Opening
         place: 0,
         permit: 0,
         species: 0,
-        pointers: [none; 8],
-        name: [0; 12],
-        segments: [no_segment; 32],
+        pointers: [none; ALL_POINTERS],
+        name: [0; NAME_SYMBOLS],
+        segments: [no_segment; LIST_LENGTH],
     }
 }
 

@@ -1,6 +1,7 @@
 // The inquiry that names no entry.
 use answers::Answer;
 use answers::Refusal;
+use placing::GREATEST_USER;
 ghost use mathlib.Core.Path.{_≡_};
 ghost use Rattle.cells.specs.Outcomes.{outcome, freeOut};
 
@@ -11,7 +12,7 @@ pub fn free_segments(store: &[u32], tables: &[u32], user: u32) -> Answer
     if !sound::sound(tables, store.len()) {
         return Answer::Refused(Refusal::Tables);
     }
-    if 7 < user {
+    if GREATEST_USER < user {
         return Answer::Refused(Refusal::User);
     }
     let number = free_count::free_count(tables);

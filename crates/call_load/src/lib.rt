@@ -1,16 +1,19 @@
 // The operator's load.
 use answers::Answer;
 use answers::Refusal;
+use image::IMAGE_LENGTH;
+use placing::LEAST_STORE;
+use placing::TABLES_LENGTH;
 ghost use mathlib.Core.Path.{_≡_};
 ghost use Prim.Native.Nat.{_≤_};
 ghost use lib.ListN.{length, replicate};
-ghost use Rattle.placing.specs.Sizes.{segmentCells, tablesLength};
+ghost use Rattle.placing.specs.Sizes.{leastStore, tablesLength};
 ghost use Rattle.image.specs.Image.{form1, imageLength};
 ghost use Rattle.cells.specs.Outcomes.{outcome, loadOut};
 
 // The image is decoded beside the tables and judged there: no cell of the tables changes before the verdict.
 fn judged(store: &[u32], tables: &mut [u32], image: &[u32], beside: &mut [u32]) -> Answer
-    requires { ⌜ (length (now tables) ≡ tablesLength) × (segmentCells ≤ length (now store)) ⌝ }
+    requires { ⌜ (length (now tables) ≡ tablesLength) × (leastStore ≤ length (now store)) ⌝ }
     requires { ⌜ (length (now image) ≡ imageLength form1) × (now beside ≡ replicate tablesLength 0) ⌝ }
     ensures { λ r. ⌜ outcome r (now (store .entry)) (now (tables .exit)) ≡ loadOut (now (store .entry)) (now (tables .entry)) (now (image .entry)) ⌝ }
 {
@@ -33,15 +36,15 @@ fn judged(store: &[u32], tables: &mut [u32], image: &[u32], beside: &mut [u32]) 
 pub fn load(store: &[u32], tables: &mut [u32], image: &[u32]) -> Answer
     ensures { λ r. ⌜ outcome r (now (store .entry)) (now (tables .exit)) ≡ loadOut (now (store .entry)) (now (tables .entry)) (now (image .entry)) ⌝ }
 {
-    if tables.len() != 4993 {
+    if tables.len() != TABLES_LENGTH {
         return Answer::Refused(Refusal::Tables);
     }
-    if store.len() < 64 {
+    if store.len() < LEAST_STORE {
         return Answer::Refused(Refusal::Tables);
     }
-    if image.len() != 897 {
+    if image.len() != IMAGE_LENGTH {
         return Answer::Refused(Refusal::Image);
     }
-    let mut beside = [0u32; 4993];
+    let mut beside = [0u32; TABLES_LENGTH];
     judged(store, tables, image, &mut beside)
 }

@@ -3,6 +3,11 @@ use answers::Answer;
 use answers::Refusal;
 use gate::Gate;
 use open_choice::Choice;
+use placing::GREATEST_SPECIES;
+use placing::LIST_LENGTH;
+use placing::NAME_SYMBOLS;
+use placing::OPENING_LENGTH;
+use placing::OPENINGS_START;
 use placing::Position;
 use placing::Segment;
 use tables::Opening;
@@ -28,7 +33,7 @@ fn vacant(store: &[u32], tables: &[u32], user: u32, entry: u32) -> Gate
     match passed {
         Gate::No(why) => Gate::No(why),
         Gate::At(at) => {
-            let opened = 3201 + 56 * at;
+            let opened = OPENINGS_START + OPENING_LENGTH * at;
             if tables[opened] == 1 {
                 return Gate::No(Refusal::Open);
             }
@@ -50,8 +55,8 @@ fn new_opening(species: u32) -> Opening
         permit: 1,
         species,
         pointers: [one, one, one, none, none, none, none, none],
-        name: [63; 12],
-        segments: [no_segment; 32],
+        name: [63; NAME_SYMBOLS],
+        segments: [no_segment; LIST_LENGTH],
     }
 }
 
@@ -62,7 +67,7 @@ pub fn open_new(store: &[u32], tables: &mut [u32], user: u32, entry: u32, specie
     match gate {
         Gate::No(why) => Answer::Refused(why),
         Gate::At(at) => {
-            if 5 < species {
+            if GREATEST_SPECIES < species {
                 return Answer::Refused(Refusal::Species);
             }
             let opening = new_opening(species);

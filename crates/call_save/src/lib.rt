@@ -1,6 +1,7 @@
 // The operator's save.
 use answers::Answer;
 use answers::Refusal;
+use image::IMAGE_LENGTH;
 ghost use mathlib.Core.Path.{_≡_};
 ghost use Rattle.cells.specs.Outcomes.{saveOut};
 ghost use Rattle.call_save.specs.Saved.{savedOutcome};
@@ -12,7 +13,7 @@ pub fn save(store: &[u32], tables: &[u32], image: &mut [u32]) -> Answer
     if !sound::sound(tables, store.len()) {
         return Answer::Refused(Refusal::Tables);
     }
-    if image.len() != 897 {
+    if image.len() != IMAGE_LENGTH {
         return Answer::Refused(Refusal::Image);
     }
     image_code::put_image(tables, image);

@@ -1,11 +1,19 @@
 // Searches through the catalogue in lent tables.
+use placing::ENTRIES;
+use placing::NAME_SYMBOLS;
+use placing::OPENING_LENGTH;
+use placing::OPENINGS_START;
+use placing::PLACES;
+use placing::RECORD_LENGTH;
+use placing::RECORDS_START;
+use tables::layout;
 ghost use mathlib.Core.Path.{_≡_};
 ghost use mathlib.Core.Bool.{not};
 ghost use Prim.Native.Nat.{_<_};
 ghost use lib.Dec.{eqb, ltb};
 ghost use lib.ListN.{length};
 ghost use Rattle.combine.specs.First.{firstBelow};
-ghost use Rattle.placing.specs.Sizes.{entries, places, tablesLength};
+ghost use Rattle.placing.specs.Sizes.{entries, places, tablesLength, recordLength, openingLength};
 ghost use Rattle.rules.specs.Rules.{lookUp};
 ghost use Rattle.tables.specs.Layout.{recordOf, recordAt, openingOf, openingAt};
 ghost use Rattle.tables.specs.Fields.{isUsed};
@@ -36,39 +44,49 @@ fn concerns(wanted: Wanted, owner: u32, private: u32) -> bool
 }
 
 // Whether a record is used, has the name and is wanted.
-fn fits(row: &[u32], wanted: Wanted, name: &[u32; 12]) -> bool
-    requires { ⌜ length (now row) ≡ 50 ⌝ }
+fn fits(row: &[u32], wanted: Wanted, name: &[u32; NAME_SYMBOLS]) -> bool
+    requires { ⌜ length (now row) ≡ recordLength ⌝ }
     ensures { λ r. ⌜ r ≡ usedWith (sought wanted (now (name .entry))) (recordOf (now (row .entry))) ⌝ }
 {
-    if row[0] != 1 {
+    if row[layout::RECORD_USED] != 1 {
         return false;
     }
-    if !concerns(wanted, row[13], row[14]) {
+    if !concerns(
+        wanted,
+        row[layout::RECORD_OWNER],
+        row[layout::RECORD_PRIVATE],
+    ) {
         return false;
     }
-    combine::same_cells(&row[1..13], name)
+    combine::same_cells(&row[layout::RECORD_NAME..layout::RECORD_OWNER], name)
 }
 
 // The same of the record at a place, but for the one that the number of an opening names.
-fn fits_at(tables: &[u32], wanted: Wanted, name: &[u32; 12], but: usize, place: usize) -> bool
+fn fits_at(
+    tables: &[u32],
+    wanted: Wanted,
+    name: &[u32; NAME_SYMBOLS],
+    but: usize,
+    place: usize,
+) -> bool
     requires { ⌜ (length (now tables) ≡ tablesLength) × (place < places) ⌝ }
     ensures { λ r. ⌜ r ≡ another (sought wanted (now (name .entry))) (now (tables .entry)) but place ⌝ }
 {
     if place + 1 == but {
         return false;
     }
-    let from = 1 + 50 * place;
-    let to = from + 50;
+    let from = RECORDS_START + RECORD_LENGTH * place;
+    let to = from + RECORD_LENGTH;
     fits(&tables[from..to], wanted, name)
 }
 
 // The lowest place with such a record; 64, where there is none.
-pub fn find(tables: &[u32], wanted: Wanted, name: &[u32; 12], but: usize) -> usize
+pub fn find(tables: &[u32], wanted: Wanted, name: &[u32; NAME_SYMBOLS], but: usize) -> usize
     requires { ⌜ length (now tables) ≡ tablesLength ⌝ }
     ensures { λ r. ⌜ r ≡ firstBelow places (another (sought wanted (now (name .entry))) (now (tables .entry)) but) ⌝ }
 {
     let mut place = 0;
-    while place < 64 {
+    while place < PLACES {
         if fits_at(tables, wanted, name, but, place) {
             return place;
         }
@@ -78,12 +96,12 @@ pub fn find(tables: &[u32], wanted: Wanted, name: &[u32; 12], but: usize) -> usi
 }
 
 // "Look-up takes the user's own record of that name first, then a public one"; 64, where there is neither.
-pub fn look_up(tables: &[u32], user: u32, name: &[u32; 12]) -> usize
+pub fn look_up(tables: &[u32], user: u32, name: &[u32; NAME_SYMBOLS]) -> usize
     requires { ⌜ length (now tables) ≡ tablesLength ⌝ }
     ensures { λ r. ⌜ r ≡ lookUp user (now (name .entry)) (headings (now (tables .entry))) ⌝ }
 {
     let own = find(tables, Wanted::Own(user), name, 0);
-    if own < 64 {
+    if own < PLACES {
         return own;
     }
     find(tables, Wanted::Public, name, 0)
@@ -95,8 +113,8 @@ pub fn unused(tables: &[u32]) -> usize
     ensures { λ r. ⌜ r ≡ firstBelow places (λ q. not (isUsed (recordAt (now (tables .entry)) q))) ⌝ }
 {
     let mut lowest = 0;
-    while lowest < 64 {
-        if tables[1 + 50 * lowest] != 1 {
+    while lowest < PLACES {
+        if tables[RECORDS_START + RECORD_LENGTH * lowest] != 1 {
             return lowest;
         }
         lowest += 1;
@@ -106,19 +124,19 @@ pub fn unused(tables: &[u32]) -> usize
 
 // Whether an opening keeps others from the record at a place.
 fn keeps_off(row: &[u32], place: u32, work: bool) -> bool
-    requires { ⌜ (length (now row) ≡ 56) × (place < places) ⌝ }
+    requires { ⌜ (length (now row) ≡ openingLength) × (place < places) ⌝ }
     ensures { λ r. ⌜ r ≡ keepsOff work place (openingOf (now (row .entry))) ⌝ }
 {
-    if row[0] != 1 {
+    if row[layout::OPENING_OPENED] != 1 {
         return false;
     }
-    if place + 1 != row[1] {
+    if place + 1 != row[layout::OPENING_PLACE] {
         return false;
     }
     if work {
         return true;
     }
-    row[2] == 1
+    row[layout::OPENING_PERMIT] == 1
 }
 
 // "Then 14: for work, if any opening of that record exists; for read, if a work opening of it exists."
@@ -127,9 +145,9 @@ pub fn busy(tables: &[u32], place: u32, work: bool) -> bool
     ensures { λ r. ⌜ r ≡ ltb (firstBelow entries (λ i. keepsOff work place (openingAt (now (tables .entry)) i))) entries ⌝ }
 {
     let mut entry = 0;
-    while entry < 32 {
-        let from = 3201 + 56 * entry;
-        let to = from + 56;
+    while entry < ENTRIES {
+        let from = OPENINGS_START + OPENING_LENGTH * entry;
+        let to = from + OPENING_LENGTH;
         if keeps_off(&tables[from..to], place, work) {
             return true;
         }

@@ -9,7 +9,7 @@ use Rattle.answers.specs.declared.Answer.{Answer}
 use Rattle.combine.specs.Verdict.{done, onDone}
 use Rattle.answers.specs.Said.{said}
 use Rattle.combine.specs.Outcome.{Outcome, outcomeOf, settle}
-use Rattle.placing.specs.Sizes.{Cells, tablesLength, entryOf, freshSegments}
+use Rattle.placing.specs.Sizes.{Cells, leastStore, tablesLength, entryOf, freshSegments}
 use Rattle.rules.specs.Calls.{Request, Start, fresh, load, Question, save, count, Call, starts, asks, on}
 use Rattle.rules.specs.Effects.{Effect}
 use Rattle.rules.specs.Gates.{userGate, entryGate, startGate, imageGate}
@@ -57,7 +57,7 @@ freeOut s t u = settle (lent s t) (userGate (soundLent s t) u (done (freeCount (
 
 -- tables of the right length, and a store of 64 cells or more
 abbrev pub lengthsb : (store tables : Cells) → Bool
-lengthsb s t = eqb (length t) tablesLength && leb 64 (length s)
+lengthsb s t = eqb (length t) tablesLength && leb leastStore (length s)
 
 -- "the tables keep that number"
 unfoldable pub freshOut : (store tables : Cells) → Outcome Lent

@@ -4,7 +4,7 @@ use mathlib.Core.Bool.{cond}
 use mathlib.Core.Option.{Option, none, some}
 use mathlib.Core.List.{List, _++_, map}
 use lib.ListN.{length, take, replicate}
-use Rattle.placing.specs.Sizes.{Cells}
+use Rattle.placing.specs.Sizes.{Cells, entries, places, mostHeld}
 use Rattle.combine.specs.Lists.{tab}
 use Rattle.placing.specs.declared.Segment.{Segment}
 use Rattle.placing.specs.Placing.{segment, position}
@@ -33,13 +33,13 @@ unfoldable pub decodedOpening : Opening → Option SegmentOpening
 decodedOpening o = cond (isOpen o) (some (openingIn o)) none
 
 unfoldable pub houseOf : (tables : Cells) → SegmentHouse
-houseOf t = house (segmentsIn t) (tab 64 (λ p. decodedRecord (recordAt t p))) (tab 32 (λ i. decodedOpening (openingAt t i)))
+houseOf t = house (segmentsIn t) (tab places (λ p. decodedRecord (recordAt t p))) (tab entries (λ i. decodedOpening (openingAt t i)))
 
 -- ---- to cells
 
 -- "Unused list places are zero"
 unfoldable pub inPlaces : (segments : List ℕ) → List Segment
-inPlaces l = map segment (l ++ replicate (32 - length l) 0)
+inPlaces l = map segment (l ++ replicate (mostHeld - length l) 0)
 
 unfoldable pub asRecord : Option SegmentRecord → Record
 asRecord none = unusedRecord

@@ -10,6 +10,8 @@ ghost use Rattle.tables.specs.declared.Opening as opening;
 ghost use Rattle.close_choice.specs.Planned.{planned, takenb, endingOf, filingOf, InRange};
 use answers::Refusal;
 use catalogue_search::Wanted;
+use placing::NAME_SYMBOLS;
+use placing::PLACES;
 use tables::Opening;
 
 // What is done with an opening: it ends; it ends and the record at a place is freed; it becomes the record at a place, public
@@ -41,18 +43,18 @@ fn ending(permit: u32, place: u32, public: bool) -> Plan
 }
 
 // "another record has the same owner and name, or public is asked and another public record has the name"
-fn taken(tables: &[u32], user: u32, name: &[u32; 12], place: u32, public: bool) -> bool
+fn taken(tables: &[u32], user: u32, name: &[u32; NAME_SYMBOLS], place: u32, public: bool) -> bool
     requires { ⌜ length (now tables) ≡ tablesLength ⌝ }
     ensures { λ r. ⌜ r ≡ takenb (without (headings (now (tables .entry))) (placeOf place)) user (now (name .entry)) public ⌝ }
 {
     let own = catalogue_search::find(tables, Wanted::Own(user), name, place as usize);
-    if own < 64 {
+    if own < PLACES {
         return true;
     }
     if !public {
         return false;
     }
-    catalogue_search::find(tables, Wanted::Public, name, place as usize) < 64
+    catalogue_search::find(tables, Wanted::Public, name, place as usize) < PLACES
 }
 
 // The record's place, "a new file in the lowest free place"; 64, where none is free.
@@ -67,7 +69,7 @@ fn place_for(tables: &[u32], place: u32) -> usize
 }
 
 // Where a record is written: "name, privacy, species, begin, end and segments become the record".
-fn filing(tables: &[u32], user: u32, name: &[u32; 12], place: u32, public: bool) -> Plan
+fn filing(tables: &[u32], user: u32, name: &[u32; NAME_SYMBOLS], place: u32, public: bool) -> Plan
     requires { ⌜ length (now tables) ≡ tablesLength ⌝ }
     ensures verdict { λ r. ⌜ ((o : opening.Opening) → planned user o r ≡ filingOf (now (tables .entry)) user (now (name .entry)) place public (handleIn o)) ⌝ }
     ensures range { λ r. ⌜ InRange r ⌝ }
@@ -76,7 +78,7 @@ fn filing(tables: &[u32], user: u32, name: &[u32; 12], place: u32, public: bool)
         return Plan::No(Refusal::Taken);
     }
     let at = place_for(tables, place);
-    if 64 <= at {
+    if PLACES <= at {
         return Plan::No(Refusal::Place);
     }
     Plan::Files(at, public)

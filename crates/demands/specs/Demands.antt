@@ -3,16 +3,16 @@ use Prim.Native.Nat.{ℕ, _*_, _≤_, _<_}
 use mathlib.Core.Path.{_≡_}
 use mathlib.Core.Logic.{_↔_}
 use mathlib.Core.Bool.{Bool, true, false}
-use mathlib.Core.List.{List, _∷_, _++_}
-use lib.ListN.{length, getD, take, replicate}
+use mathlib.Core.List.{List, _∷_}
+use lib.ListN.{length, getD, take}
 use Rattle.combine.specs.Below.{countBelow}
 use Rattle.combine.specs.Verdict.{done, refused, isDone}
 use Rattle.combine.specs.Outcome.{outcomeOf}
-use Rattle.placing.specs.Sizes.{tablesLength}
+use Rattle.placing.specs.Sizes.{greatestUser, segmentCells, openingsStart, tablesLength, lists}
 use Rattle.rules.specs.Calls.{Start, Call, starts, asks, on}
 use Rattle.rules.specs.House.{closedDown}
 use Rattle.segments.specs.Free.{isFree}
-use Rattle.tables.specs.Layout.{segmentsIn}
+use Rattle.tables.specs.Layout.{segmentsIn, noneOpen}
 use Rattle.tables.specs.Lists.{heldIn, listed}
 use Rattle.image.specs.Image.{form1, imageLength, imageb}
 use Rattle.cells.specs.Says.{houseOf}
@@ -42,7 +42,7 @@ KeepsLengths = (c : Call) (x : Lent) → (length (afterCall c x .store) ≡ leng
 
 -- "cells beyond are never touched"
 abbrev pub KeepsBeyond : Type 0
-KeepsBeyond = (c : Call) (x : Lent) → Sound x → (k : ℕ) → 64 * segmentsIn (x .tables) ≤ k → getD (afterCall c x .store) k 0 ≡ getD (x .store) k 0
+KeepsBeyond = (c : Call) (x : Lent) → Sound x → (k : ℕ) → segmentCells * segmentsIn (x .tables) ≤ k → getD (afterCall c x .store) k 0 ≡ getD (x .store) k 0
 
 -- ---- demand 2: the calls on cells are the calls on the state as its users know it, with the same answers
 
@@ -87,7 +87,7 @@ SaveThenLoad =
     (x : Lent) (buffer tables : List ℕ) → Sound x → length buffer ≡ imageLength form1 → length tables ≡ tablesLength
     → let o = loadOut (x .store) tables (saveOut (x .store) (x .tables) buffer .after .image) in
     let m = viewOn x in
-    (o ≡ outcomeOf (done 0) (lent (x .store) (take 3201 (x .tables) ++ replicate 1792 0))) × (viewOn (o .after) ≡ model (m .cells) (closedDown (m .house)))
+    (o ≡ outcomeOf (done 0) (lent (x .store) (noneOpen (take openingsStart (x .tables))))) × (viewOn (o .after) ≡ model (m .cells) (closedDown (m .house)))
 
 -- the numbers of 32 bits
 abbrev pub AreCells : List ℕ → Type 0
@@ -103,10 +103,10 @@ LoadThenSave =
 -- ---- the free count "equals the segments no list names"
 
 abbrev pub Unnamed : List ℕ → ℕ → Type 0
-Unnamed t g = (i k : ℕ) → i < 96 → k < heldIn t i → listed t i k ≡ g → ⊥
+Unnamed t g = (i k : ℕ) → i < lists → k < heldIn t i → listed t i k ≡ g → ⊥
 
 abbrev pub FreeCounted : Type 0
 FreeCounted =
-    (x : Lent) (u : ℕ) → Sound x → u ≤ 7
+    (x : Lent) (u : ℕ) → Sound x → u ≤ greatestUser
     → (freeOut (x .store) (x .tables) u ≡ outcomeOf (done (countBelow (segmentsIn (x .tables)) (isFree (houseOf (x .tables))))) x)
     × ((g : ℕ) → (isFree (houseOf (x .tables)) g ≡ true) ↔ Unnamed (x .tables) g)

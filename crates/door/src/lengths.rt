@@ -7,12 +7,12 @@ ghost use Rattle.image.specs.Image.{form1, imageLength};
 pub extern "C" fn dorrivand_tables_length() -> usize
     ensures { λ r. ⌜ r ≡ tablesLength ⌝ }
 {
-    4993
+    placing::TABLES_LENGTH
 }
 
 #[no_mangle]
 pub extern "C" fn dorrivand_image_length() -> usize
     ensures { λ r. ⌜ r ≡ imageLength form1 ⌝ }
 {
-    897
+    image::IMAGE_LENGTH
 }

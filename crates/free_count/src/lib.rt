@@ -6,6 +6,7 @@ ghost use lib.Dec.{eqb};
 ghost use lib.ListN.{getD, length};
 ghost use Rattle.combine.specs.Below.{countBelow};
 ghost use Rattle.combine.specs.Lists.{isIn};
+ghost use Rattle.placing.specs.Sizes.{mostSegments, lists};
 ghost use Rattle.placing.specs.Placing.{heldOf};
 ghost use Rattle.segments.specs.Free.{isFree, freeCount};
 ghost use Rattle.tables.specs.Lists.{heldIn};
@@ -13,17 +14,33 @@ ghost use Rattle.tables.specs.laws.Sound.{Ranged};
 ghost use Rattle.cells.specs.Says.{houseOf};
 ghost use Rattle.tables.specs.laws.ExtentFacts.{SoundExtent};
 ghost use Rattle.free_count.specs.Rows.{startOf};
+use placing::LISTS;
+use placing::MOST_SEGMENTS;
+use placing::OPENING_LENGTH;
+use placing::OPENINGS_START;
+use placing::PLACES;
 use placing::Position;
+use placing::RECORD_LENGTH;
+use placing::RECORDS_START;
+use tables::layout;
 
-// Where the row of list i starts: 64 lists of records, then 32 of openings.
+// A mark for each segment.
+const MARKS: usize = MOST_SEGMENTS as usize;
+
+// Where the lists of the first record and of the first opening start.
+const RECORD_LIST: usize = RECORDS_START + layout::RECORD_SEGMENTS;
+
+const OPENING_LIST: usize = OPENINGS_START + layout::OPENING_SEGMENTS;
+
+// Where the row of list i starts: the lists of the records, then those of the openings.
 pub fn row_start(i: usize) -> usize
-    requires { ⌜ i < 96 ⌝ }
+    requires { ⌜ i < lists ⌝ }
     ensures { λ r. ⌜ r ≡ startOf i ⌝ }
 {
-    if i < 64 {
-        return 19 + 50 * i;
+    if i < PLACES {
+        return RECORD_LIST + RECORD_LENGTH * i;
     }
-    3225 + 56 * (i - 64)
+    OPENING_LIST + OPENING_LENGTH * (i - PLACES)
 }
 
 // How many segments a record or an opening holds; its first cell is 0 where there is none.
@@ -39,31 +56,31 @@ fn held_by(used: u32, species: u32, begin: u32, end: u32) -> usize
 
 // How many segments list i holds.
 pub fn held_in(tables: &[u32], i: usize) -> usize
-    requires { ⌜ Ranged (now tables) × (i < 96) ⌝ }
+    requires { ⌜ Ranged (now tables) × (i < lists) ⌝ }
     ensures { λ r. ⌜ r ≡ heldIn (now (tables .entry)) i ⌝ }
 {
-    if i < 64 {
-        let record = 1 + 50 * i;
+    if i < PLACES {
+        let record = RECORDS_START + RECORD_LENGTH * i;
         return held_by(
             tables[record],
-            tables[record + 15],
-            tables[record + 16],
-            tables[record + 17],
+            tables[record + layout::RECORD_SPECIES],
+            tables[record + layout::RECORD_BEGIN],
+            tables[record + layout::RECORD_END],
         );
     }
-    let opening = 3201 + 56 * (i - 64);
+    let opening = OPENINGS_START + OPENING_LENGTH * (i - PLACES);
     held_by(
         tables[opening],
-        tables[opening + 3],
-        tables[opening + 4],
-        tables[opening + 5],
+        tables[opening + layout::OPENING_SPECIES],
+        tables[opening + layout::OPENING_BEGIN],
+        tables[opening + layout::OPENING_END],
     )
 }
 
 // Marks the numbers of a row.
-fn mark_row(row: &[u32], marks: &mut [u32; 1024])
-    requires { ⌜ (length (now marks) ≡ 1024) × ((k : ℕ) → k < length (now row) → getD (now row) k 0 < 1024) ⌝ }
-    ensures size { λ _. ⌜ length (now (marks .exit)) ≡ 1024 ⌝ }
+fn mark_row(row: &[u32], marks: &mut [u32; MARKS])
+    requires { ⌜ (length (now marks) ≡ mostSegments) × ((k : ℕ) → k < length (now row) → getD (now row) k 0 < mostSegments) ⌝ }
+    ensures size { λ _. ⌜ length (now (marks .exit)) ≡ mostSegments ⌝ }
     ensures { λ _. ⌜ ((g : ℕ) → eqb (getD (now (marks .exit)) g 0) 0 ≡ (eqb (getD (now (marks .entry)) g 0) 0 && not (isIn g (now (row .entry))))) ⌝ }
 {
     let mut k = 0;
@@ -74,8 +91,8 @@ fn mark_row(row: &[u32], marks: &mut [u32; 1024])
 }
 
 // How many of the first numbers are not marked.
-fn unmarked(marks: &[u32; 1024], segments: u32) -> u32
-    requires { ⌜ segments ≤ 1024 ⌝ }
+fn unmarked(marks: &[u32; MARKS], segments: u32) -> u32
+    requires { ⌜ segments ≤ mostSegments ⌝ }
     ensures { λ r. ⌜ r ≡ countBelow segments (λ g. eqb (getD (now (marks .entry)) g 0) 0) ⌝ }
 {
     let mut count: u32 = 0;
@@ -88,12 +105,12 @@ fn unmarked(marks: &[u32; 1024], segments: u32) -> u32
 }
 
 // Marks the numbers that the lists hold.
-fn mark_lists(tables: &[u32], marks: &mut [u32; 1024])
-    requires { ⌜ Ranged (now tables) × (length (now marks) ≡ 1024) ⌝ }
+fn mark_lists(tables: &[u32], marks: &mut [u32; MARKS])
+    requires { ⌜ Ranged (now tables) × (length (now marks) ≡ mostSegments) ⌝ }
     ensures { λ _. ⌜ ((g : ℕ) → eqb (getD (now (marks .exit)) g 0) 0 ≡ (eqb (getD (now (marks .entry)) g 0) 0 && isFree (houseOf (now (tables .entry))) g)) ⌝ }
 {
     let mut list = 0;
-    while list < 96 {
+    while list < LISTS {
         let start = row_start(list);
         let count = held_in(tables, list);
         mark_row(&tables[start..start + count], marks);
@@ -106,7 +123,7 @@ pub fn free_count(tables: &[u32]) -> u32
     requires { ⌜ Ranged (now tables) ⌝ }
     ensures { λ r. ⌜ r ≡ freeCount (houseOf (now (tables .entry))) ⌝ }
 {
-    let mut marks = [0u32; 1024];
+    let mut marks = [0u32; MARKS];
     mark_lists(tables, &mut marks);
     unmarked(&marks, tables[0])
 }

@@ -2,6 +2,7 @@
 ghost use mathlib.Core.Path.{_≡_};
 ghost use Prim.Native.Nat.{_+_, _<_, _≤_};
 ghost use lib.ListN.{length};
+ghost use Rattle.placing.specs.Sizes.{mostSegments, mostHeld, lists};
 ghost use Rattle.placing.specs.Placing.{segment};
 ghost use Rattle.segments.specs.Free.{lowestFree};
 ghost use Rattle.tables.specs.laws.Sound.{Ranged};
@@ -9,24 +10,25 @@ ghost use Rattle.cells.specs.Says.{houseOf};
 ghost use Rattle.free_lowest.specs.Held.{HeldRows};
 ghost use Rattle.free_lowest.specs.Round.{wrapped};
 ghost use Rattle.free_lowest.specs.Run.{runEnd};
+use placing::LISTS;
 use placing::Segment;
 
 // The rows of the lists that hold a segment.
 struct Rows {
     number: usize,
-    starts: [usize; 96],
-    counts: [usize; 96],
+    starts: [usize; LISTS],
+    counts: [usize; LISTS],
 }
 
 fn held_rows(tables: &[u32]) -> Rows
     requires { ⌜ Ranged (now tables) ⌝ }
-    ensures { λ r. ⌜ HeldRows (now (tables .entry)) 96 (r .number) (r .starts) (r .counts) ⌝ }
+    ensures { λ r. ⌜ HeldRows (now (tables .entry)) lists (r .number) (r .starts) (r .counts) ⌝ }
 {
-    let mut starts = [0usize; 96];
-    let mut counts = [0usize; 96];
+    let mut starts = [0usize; LISTS];
+    let mut counts = [0usize; LISTS];
     let mut number = 0;
     let mut i = 0;
-    while i < 96 {
+    while i < LISTS {
         let count = free_count::held_in(tables, i);
         // A row with no number is written over by the next.
         starts[number] = free_count::row_start(i);
@@ -43,7 +45,7 @@ fn held_rows(tables: &[u32]) -> Rows
 
 // The row after this one; after the last comes the first.
 fn row_after(row: usize, rows: usize) -> usize
-    requires { ⌜ (row < rows) × (rows ≤ 96) ⌝ }
+    requires { ⌜ (row < rows) × (rows ≤ lists) ⌝ }
     ensures { λ r. ⌜ r ≡ wrapped rows (row + 1) ⌝ }
 {
     if row + 1 < rows {
@@ -54,7 +56,7 @@ fn row_after(row: usize, rows: usize) -> usize
 
 // The number after the run of numbers, from this one on, that the row lists in rising order.
 fn run_end(row: &[u32], number: u32) -> u32
-    requires { ⌜ (length (now row) ≤ 32) × (number ≤ 1024) ⌝ }
+    requires { ⌜ (length (now row) ≤ mostHeld) × (number ≤ mostSegments) ⌝ }
     ensures { λ r. ⌜ r ≡ runEnd (now (row .entry)) number ⌝ }
 {
     let mut next = number;

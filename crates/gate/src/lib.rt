@@ -2,6 +2,11 @@
 ghost use mathlib.Core.Path.{_≡_};
 ghost use Rattle.gate.specs.Gates.{passOf, reachOf};
 use answers::Refusal;
+use placing::GREATEST_ENTRY;
+use placing::GREATEST_USER;
+use placing::OPENING_LENGTH;
+use placing::OPENINGS_START;
+use placing::ROW_ENTRIES;
 
 // The entry that a call names, of 32, or the refusal.
 pub enum Gate {
@@ -16,13 +21,13 @@ pub fn pass(cells: usize, tables: &[u32], user: u32, entry: u32) -> Gate
     if !sound::sound(tables, cells) {
         return Gate::No(Refusal::Tables);
     }
-    if 7 < user {
+    if GREATEST_USER < user {
         return Gate::No(Refusal::User);
     }
-    if 3 < entry {
+    if GREATEST_ENTRY < entry {
         return Gate::No(Refusal::Entry);
     }
-    let of_all = 4 * user + entry;
+    let of_all = ROW_ENTRIES * user + entry;
     Gate::At(of_all as usize)
 }
 
@@ -34,7 +39,7 @@ pub fn reach(cells: usize, tables: &[u32], user: u32, entry: u32) -> Gate
     match passed {
         Gate::No(why) => Gate::No(why),
         Gate::At(at) => {
-            let opened = 3201 + 56 * at;
+            let opened = OPENINGS_START + OPENING_LENGTH * at;
             if tables[opened] != 1 {
                 return Gate::No(Refusal::Entry);
             }

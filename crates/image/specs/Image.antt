@@ -7,8 +7,8 @@ use lib.ListN.{length, getD, replicate}
 use Rattle.combine.specs.Rows.{allOf}
 use Rattle.combine.specs.Lists.{tab, part, joined}
 use Rattle.packing.specs.Packing.{packed, unpacked, rowOf, cellsOf}
-use Rattle.placing.specs.Sizes.{Cells, places}
-use Rattle.tables.specs.Layout.{recordBase, segmentsIn}
+use Rattle.placing.specs.Sizes.{Cells, places, mostHeld, nameSymbols, recordLength}
+use Rattle.tables.specs.Layout.{recordBase, segmentsIn, noneOpen}
 use Rattle.tables.specs.Sound.{soundb}
 
 -- ---- forms of image
@@ -22,7 +22,7 @@ pub record Form : Type 0 where
 -- "Then 64 records of 448 bits: used 1, name 12 x 6, owner 3, private 1, species 3, begin 24, end 24, then 32 segment numbers of 10 bits by
 -- rising stretch."
 unfoldable pub recordWidths : List ℕ
-recordWidths = 1 ∷ (replicate 12 6 ++ (3 ∷ 1 ∷ 3 ∷ 24 ∷ 24 ∷ replicate 32 10))
+recordWidths = 1 ∷ (replicate nameSymbols 6 ++ (3 ∷ 1 ∷ 3 ∷ 24 ∷ 24 ∷ replicate mostHeld 10))
 
 abbrev pub form1 : Form
 form1 = record { number = 1; widths = recordWidths; cells = 14 }
@@ -41,7 +41,7 @@ unfoldable pub headImage : Form → (segments : ℕ) → Cells
 headImage f n = cellsOf 1 (packed headWidths (f .number ∷ n ∷ 0 ∷ []))
 
 unfoldable pub recordImage : Form → (tables : Cells) (place : ℕ) → Cells
-recordImage f t p = cellsOf (f .cells) (packed (f .widths) (part t (recordBase p) 50))
+recordImage f t p = cellsOf (f .cells) (packed (f .widths) (part t (recordBase p) recordLength))
 
 unfoldable pub imageOf : Form → (tables : Cells) → Cells
 imageOf f t = headImage f (segmentsIn t) ++ joined (tab places (recordImage f t))
@@ -56,7 +56,7 @@ unfoldable pub recordFrom : Form → (image : Cells) (place : ℕ) → Cells
 recordFrom f img p = unpacked (f .widths) (rowOf (part img (1 + f .cells * p) (f .cells)))
 
 unfoldable pub tablesFrom : Form → (image : Cells) → Cells
-tablesFrom f img = headField img 1 ∷ (joined (tab places (recordFrom f img)) ++ replicate 1792 0)
+tablesFrom f img = noneOpen (headField img 1 ∷ joined (tab places (recordFrom f img)))
 
 -- ---- "Sound: form 1; 1 to 1,024 segments, fitting the store; names not empty, symbols 0 to 35 and then only 63; species 0 to 5; 1 <= begin
 -- <= end; at most 32 segments held; segment numbers in range and listed once; every bit called zero here is zero; the two name rules.":

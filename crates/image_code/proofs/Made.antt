@@ -1,5 +1,5 @@
 -- The image is made, and the tables are made. Assumes nothing.
-use Prim.Native.Nat.{ℕ}
+use Prim.Native.Nat.{ℕ, _-_}
 use mathlib.Core.Path.{_≡_, sym, ap, _∙_}
 use mathlib.Core.List.{List, _∷_, _++_}
 use borrow.Rule.Slice.PartMut.{putMid, postOf}
@@ -7,7 +7,7 @@ use lib.ListN.{length, getD, take, drop, set, replicate, length-set, length-repl
 use lib.Seq.{take-at, drop-at}
 use Rattle.combine.specs.Lists.{joined, tab, part}
 use Rattle.packing.specs.Packing.{unpacked, rowOf}
-use Rattle.placing.specs.Sizes.{places, tablesLength}
+use Rattle.placing.specs.Sizes.{places, openingsStart, tablesLength}
 use Rattle.image_code.specs.Lengths.{head-length}
 use Rattle.image.specs.Image.{form1, headWidths, headImage, recordImage, imageOf, headField, recordFrom, tablesFrom}
 
@@ -19,17 +19,20 @@ image-made t x ys z e f =
     ∙ ap (λ (k : List ℕ). k ++ records) (take-at (headImage form1 (getD t 0 0)) (postOf 0 1 x) 1 (head-length (getD t 0 0)))
 
 -- the cells after the records, in tables that are zero from cell 1 on
-zeros-after : drop {A = ℕ} 3200 (replicate 4992 0) ≡ replicate 1792 0
-zeros-after = ap (drop {A = ℕ} 3200) (sym (replicate-append-replicate 3200 1792 0)) ∙ drop-at (replicate 3200 0) (replicate 1792 0) 3200 (length-replicate {A = ℕ} 3200 0)
+zeros-after : drop {A = ℕ} (openingsStart - 1) (replicate (tablesLength - 1) 0) ≡ replicate (tablesLength - openingsStart) 0
+zeros-after =
+    let n : ℕ = openingsStart - 1 in
+    let m : ℕ = tablesLength - openingsStart in
+    ap (drop {A = ℕ} n) (sym (replicate-append-replicate n m 0)) ∙ drop-at (replicate n 0) (replicate m 0) n (length-replicate {A = ℕ} n 0)
 
 pub tables-made : (img h x z : List ℕ) → h ≡ unpacked headWidths (rowOf (take 1 img)) → x ≡ replicate tablesLength 0
-    → z ≡ take 1 (set x 0 (getD h 1 0)) ++ (joined (tab places (recordFrom form1 img)) ++ drop 3201 (set x 0 (getD h 1 0))) → z ≡ tablesFrom form1 img
+    → z ≡ take 1 (set x 0 (getD h 1 0)) ++ (joined (tab places (recordFrom form1 img)) ++ drop openingsStart (set x 0 (getD h 1 0))) → z ≡ tablesFrom form1 img
 unfolding tablesFrom headField part
 tables-made img h x z e w f =
     let records : List ℕ = joined (tab places (recordFrom form1 img)) in
-    f ∙ (λ j. take 1 (set (w j) 0 (getD (e j) 1 0)) ++ (records ++ drop 3201 (set (w j) 0 (getD (e j) 1 0))))
+    f ∙ (λ j. take 1 (set (w j) 0 (getD (e j) 1 0)) ++ (records ++ drop openingsStart (set (w j) 0 (getD (e j) 1 0))))
     ∙ ap (λ (k : List ℕ). headField img 1 ∷ (records ++ k)) zeros-after
 
 -- zero behind their first cell
-pub zeros-behind : (x : List ℕ) (n : ℕ) → x ≡ replicate tablesLength 0 → (length (set x 0 n) ≡ tablesLength) × (drop 1 (set x 0 n) ≡ replicate 4992 0)
+pub zeros-behind : (x : List ℕ) (n : ℕ) → x ≡ replicate tablesLength 0 → (length (set x 0 n) ≡ tablesLength) × (drop 1 (set x 0 n) ≡ replicate (tablesLength - 1) 0)
 zeros-behind x n w = (length-set x 0 n ∙ ap length w ∙ length-replicate {A = ℕ} tablesLength 0, ap (λ (y : List ℕ). drop 1 (set y 0 n)) w)

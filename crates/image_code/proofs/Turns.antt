@@ -8,6 +8,9 @@ use borrow.Rule.Slice.PartMut.{putMid, post-is, mid-len}
 use lib.ListN.{length, take, drop, replicate, length-append, length-replicate, take-append-drop, drop-of-length-le, replicate-append-replicate}
 use lib.Seq.{length-take-le, take-at, drop-at, drop-append-add, drop-drop}
 use Rattle.combine.specs.Lists.{joined, tab, part}
+use Rattle.placing.specs.Sizes.{places, recordLength, tablesLength}
+use Rattle.tables.specs.Layout.{recordBase}
+use Rattle.image.specs.Image.{form1, imageLength}
 use Rattle.image_code.specs.Pieces.{pieces-suc, pieces-length}
 
 -- the cells from a to e
@@ -50,12 +53,12 @@ module _ (f : ℕ → List ℕ) (m : ℕ) (long : (p : ℕ) → length (f p) ≡
       ∙ ap (λ (k : List ℕ). take 1 x₀ ++ k) (sym (append-assoc (joined (tab p f)) (f p) (drop e x₀)))
       ∙ (λ j. take 1 x₀ ++ (g j ++ drop (q′ j) x₀))
 
-  pub all-placed : (x : List ℕ) (p e : ℕ) → p ≡ 64 → 1 + m * 64 ≡ e → x ≡ placed p → x ≡ take 1 x₀ ++ (joined (tab 64 f) ++ drop e x₀)
-  all-placed x p e q r i = i ∙ ap placed q ∙ ap (λ (k : ℕ). take 1 x₀ ++ (joined (tab 64 f) ++ drop k x₀)) r
+  pub all-placed : (x : List ℕ) (p e : ℕ) → p ≡ places → 1 + m * places ≡ e → x ≡ placed p → x ≡ take 1 x₀ ++ (joined (tab places f) ++ drop e x₀)
+  all-placed x p e q r i = i ∙ ap placed q ∙ ap (λ (k : ℕ). take 1 x₀ ++ (joined (tab places f) ++ drop k x₀)) r
 
 -- nothing lies beyond the image's last record
-pub image-full : (x y z : List ℕ) → length x ≡ 897 → z ≡ take 1 x ++ (y ++ drop 897 x) → z ≡ take 1 x ++ y
-image-full x y z n e = e ∙ ap (λ (k : List ℕ). take 1 x ++ (y ++ k)) (drop-of-length-le x {i = 897} (omega arith)) ∙ ap (λ (k : List ℕ). take 1 x ++ k) (append-nil y)
+pub image-full : (x y z : List ℕ) → length x ≡ imageLength form1 → z ≡ take 1 x ++ (y ++ drop (imageLength form1) x) → z ≡ take 1 x ++ y
+image-full x y z n e = e ∙ ap (λ (k : List ℕ). take 1 x ++ (y ++ k)) (drop-of-length-le x {i = imageLength form1} (omega arith)) ∙ ap (λ (k : List ℕ). take 1 x ++ k) (append-nil y)
 
 -- ---- zeros
 
@@ -67,9 +70,11 @@ zeros-part a n r =
     ∙ ap (take n) (sym (replicate-append-replicate n r 0)) ∙ take-at (replicate n 0) (replicate r 0) n (length-replicate n 0)
 
 -- the record to come is zero, in tables that were zero behind their first cell
-pub zeros-come : (x₀ x : List ℕ) (p e : ℕ) → p < 64 → e ≡ 1 + 50 * p + 50 → drop 1 x₀ ≡ replicate 4992 0 → drop (1 + 50 * p) x ≡ drop (1 + 50 * p) x₀ → take (e - (1 + 50 * p)) (drop (1 + 50 * p) x) ≡ replicate 50 0
+pub zeros-come : (x₀ x : List ℕ) (p e : ℕ) → p < places → e ≡ recordBase p + recordLength → drop 1 x₀ ≡ replicate (tablesLength - 1) 0 → drop (recordBase p) x ≡ drop (recordBase p) x₀ → take (e - recordBase p) (drop (recordBase p) x) ≡ replicate recordLength 0
 zeros-come x₀ x p e l q z d =
-    let k : e - (1 + 50 * p) ≡ 50 = omega arith in
-    let m : 4992 ≡ 50 * p + (50 + (4942 - 50 * p)) = omega arith in
-    (λ j. take (k j) (d j)) ∙ ap (take 50) (sym (drop-drop (50 * p) 1 x₀) ∙ ap (drop (50 * p)) z)
-    ∙ ap (λ (n : ℕ). take 50 (drop (50 * p) (replicate n 0))) m ∙ zeros-part (50 * p) 50 (4942 - 50 * p)
+    let before : ℕ = recordLength * p in
+    let behind : ℕ = tablesLength - 1 - recordLength - before in
+    let k : e - recordBase p ≡ recordLength = omega arith in
+    let m : tablesLength - 1 ≡ before + (recordLength + behind) = omega arith in
+    (λ j. take (k j) (d j)) ∙ ap (take recordLength) (sym (drop-drop before 1 x₀) ∙ ap (drop before) z)
+    ∙ ap (λ (n : ℕ). take recordLength (drop before (replicate n 0))) m ∙ zeros-part before recordLength behind

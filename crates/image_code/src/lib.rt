@@ -1,16 +1,27 @@
 // The catalogue image of the tables, and the tables of a catalogue image.
+use image::FIELD_CELLS;
+use image::RECORD_CELLS;
+use placing::PLACES;
+use placing::RECORD_LENGTH;
+use placing::RECORDS_START;
+use tables::layout::RECORD_SEGMENTS;
 ghost use mathlib.Core.Path.{_≡_};
 ghost use mathlib.Core.List.{_++_};
-ghost use Prim.Native.Nat.{_≤_};
+ghost use Prim.Native.Nat.{_-_, _≤_};
 ghost use lib.ListN.{length, take, drop, replicate};
 ghost use Rattle.combine.specs.Lists.{joined, tab};
 ghost use Rattle.packing.specs.Packing.{packed, unpacked, rowOf, cellsOf};
-ghost use Rattle.placing.specs.Sizes.{tablesLength, places, mostSegments};
+ghost use Rattle.placing.specs.Sizes.{tablesLength, places, mostSegments, recordLength, openingsStart};
 ghost use Rattle.tables.specs.laws.Sound.{Ranged};
 ghost use Rattle.image.specs.Image.{form1, imageLength, headWidths, recordWidths, headImage, recordImage, imageOf, recordFrom, tablesFrom};
 ghost use Rattle.image_code.specs.Fits.{Fits, Writable};
 
 mod widths;
+
+// Where the record after the first starts, in the tables and in the image.
+const SECOND_RECORD: usize = RECORDS_START + RECORD_LENGTH;
+
+const SECOND_IN_IMAGE: usize = 1 + RECORD_CELLS;
 
 // The image's first cell: form 1, the number of segments, zero bits.
 fn put_head(segments: u32, out: &mut [u32])
@@ -33,17 +44,25 @@ pub fn take_head(cells: &[u32]) -> [u32; 3]
 
 // A record's 50 cells of the tables into its 14 of the image: the fields fill four of them, the segment numbers ten.
 fn pack_record(values: &[u32], out: &mut [u32])
-    requires { ⌜ (length (now values) ≡ 50) × (length (now out) ≡ 14) × Fits (now values) ⌝ }
-    ensures { λ _. ⌜ now (out .exit) ≡ cellsOf 14 (packed recordWidths (now (values .entry))) ⌝ }
+    requires { ⌜ (length (now values) ≡ recordLength) × (length (now out) ≡ form1 .cells) × Fits (now values) ⌝ }
+    ensures { λ _. ⌜ now (out .exit) ≡ cellsOf (form1 .cells) (packed recordWidths (now (values .entry))) ⌝ }
 {
-    packing_rows::pack(&mut out[0..4], &widths::FIELDS, &values[0..18]);
-    packing_rows::pack(&mut out[4..14], &widths::NUMBERS, &values[18..50]);
+    packing_rows::pack(
+        &mut out[0..FIELD_CELLS],
+        &widths::FIELDS,
+        &values[0..RECORD_SEGMENTS],
+    );
+    packing_rows::pack(
+        &mut out[FIELD_CELLS..RECORD_CELLS],
+        &widths::NUMBERS,
+        &values[RECORD_SEGMENTS..RECORD_LENGTH],
+    );
 }
 
 // The same for a record that may be unused: "an unused record is all zero", and so are its cells of the image.
 fn put_record(values: &[u32], out: &mut [u32])
-    requires { ⌜ (length (now values) ≡ 50) × (length (now out) ≡ 14) × Writable (now values) ⌝ }
-    ensures { λ _. ⌜ now (out .exit) ≡ cellsOf 14 (packed recordWidths (now (values .entry))) ⌝ }
+    requires { ⌜ (length (now values) ≡ recordLength) × (length (now out) ≡ form1 .cells) × Writable (now values) ⌝ }
+    ensures { λ _. ⌜ now (out .exit) ≡ cellsOf (form1 .cells) (packed recordWidths (now (values .entry))) ⌝ }
 {
     if values[0] == 0 {
         combine::fill_cells(out, 0);
@@ -54,16 +73,24 @@ fn put_record(values: &[u32], out: &mut [u32])
 
 // The 50 cells of the record that 14 cells of the image say.
 fn unpack_record(cells: &[u32], out: &mut [u32])
-    requires { ⌜ (length (now cells) ≡ 14) × (length (now out) ≡ 50) ⌝ }
+    requires { ⌜ (length (now cells) ≡ form1 .cells) × (length (now out) ≡ recordLength) ⌝ }
     ensures { λ _. ⌜ now (out .exit) ≡ unpacked recordWidths (rowOf (now (cells .entry))) ⌝ }
 {
-    packing_rows::unpack(&cells[0..4], &widths::FIELDS, &mut out[0..18]);
-    packing_rows::unpack(&cells[4..14], &widths::NUMBERS, &mut out[18..50]);
+    packing_rows::unpack(
+        &cells[0..FIELD_CELLS],
+        &widths::FIELDS,
+        &mut out[0..RECORD_SEGMENTS],
+    );
+    packing_rows::unpack(
+        &cells[FIELD_CELLS..RECORD_CELLS],
+        &widths::NUMBERS,
+        &mut out[RECORD_SEGMENTS..RECORD_LENGTH],
+    );
 }
 
 // The same where the 50 cells are zero: they stay so for cells that are all zero.
 fn take_record(cells: &[u32], out: &mut [u32])
-    requires { ⌜ (length (now cells) ≡ 14) × (now out ≡ replicate 50 0) ⌝ }
+    requires { ⌜ (length (now cells) ≡ form1 .cells) × (now out ≡ replicate recordLength 0) ⌝ }
     ensures { λ _. ⌜ now (out .exit) ≡ unpacked recordWidths (rowOf (now (cells .entry))) ⌝ }
 {
     if combine::all_zero(cells) {
@@ -78,10 +105,10 @@ fn put_records(tables: &[u32], image: &mut [u32])
     ensures { λ _. ⌜ now (image .exit) ≡ take 1 (now (image .entry)) ++ joined (tab places (recordImage form1 (now (tables .entry)))) ⌝ }
 {
     let mut p = 0;
-    while p < 64 {
+    while p < PLACES {
         put_record(
-            &tables[1 + 50 * p..51 + 50 * p],
-            &mut image[1 + 14 * p..15 + 14 * p],
+            &tables[RECORDS_START + RECORD_LENGTH * p..SECOND_RECORD + RECORD_LENGTH * p],
+            &mut image[1 + RECORD_CELLS * p..SECOND_IN_IMAGE + RECORD_CELLS * p],
         );
         p += 1;
     }
@@ -89,14 +116,14 @@ fn put_records(tables: &[u32], image: &mut [u32])
 
 // The records of the image into tables that are zero behind their first cell.
 fn take_records(image: &[u32], tables: &mut [u32])
-    requires { ⌜ (length (now image) ≡ imageLength form1) × (length (now tables) ≡ tablesLength) × (drop 1 (now tables) ≡ replicate 4992 0) ⌝ }
-    ensures { λ _. ⌜ now (tables .exit) ≡ take 1 (now (tables .entry)) ++ (joined (tab places (recordFrom form1 (now (image .entry)))) ++ drop 3201 (now (tables .entry))) ⌝ }
+    requires { ⌜ (length (now image) ≡ imageLength form1) × (length (now tables) ≡ tablesLength) × (drop 1 (now tables) ≡ replicate (tablesLength - 1) 0) ⌝ }
+    ensures { λ _. ⌜ now (tables .exit) ≡ take 1 (now (tables .entry)) ++ (joined (tab places (recordFrom form1 (now (image .entry)))) ++ drop openingsStart (now (tables .entry))) ⌝ }
 {
     let mut p = 0;
-    while p < 64 {
+    while p < PLACES {
         take_record(
-            &image[1 + 14 * p..15 + 14 * p],
-            &mut tables[1 + 50 * p..51 + 50 * p],
+            &image[1 + RECORD_CELLS * p..SECOND_IN_IMAGE + RECORD_CELLS * p],
+            &mut tables[RECORDS_START + RECORD_LENGTH * p..SECOND_RECORD + RECORD_LENGTH * p],
         );
         p += 1;
     }

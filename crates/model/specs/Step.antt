@@ -6,7 +6,7 @@ use lib.Dec.{eqb, leb}
 use lib.ListN.{length, getD}
 use Rattle.combine.specs.Verdict.{Said, done, isDone, onDone}
 use Rattle.combine.specs.Outcome.{Outcome, outcomeOf, settle}
-use Rattle.placing.specs.Sizes.{Cells, entryOf}
+use Rattle.placing.specs.Sizes.{Cells, leastStore, entryOf}
 use Rattle.image.specs.Image.{form1, imageLength}
 use Rattle.rules.specs.Calls.{Request, Start, fresh, load, Question, save, count, Call, starts, asks, on}
 use Rattle.rules.specs.Headings.{Open, isSome}
@@ -33,8 +33,8 @@ filesOr h none = h
 filesOr h (some f) = f
 
 abbrev pub startOnModel : (look : Cells → Option Files) → Start → Model → Outcome Model
-startOnModel look fresh m = settle m (startGate (leb 64 (m .cells)) (done (0, model (m .cells) (freshHouse (m .cells)))))
-startOnModel look (load img) m = settle m (imageGate (leb 64 (m .cells)) (isSome (look img)) (done (0, model (m .cells) (filesOr (m .house) (look img)))))
+startOnModel look fresh m = settle m (startGate (leb leastStore (m .cells)) (done (0, model (m .cells) (freshHouse (m .cells)))))
+startOnModel look (load img) m = settle m (imageGate (leb leastStore (m .cells)) (isSome (look img)) (done (0, model (m .cells) (filesOr (m .house) (look img)))))
 
 -- the answer to a question
 abbrev pub askModel : Question → Model → Said

@@ -15,6 +15,14 @@ ghost use Rattle.catalogue_laws.specs.Entries.{othersIn};
 ghost use Rattle.open_choice.specs.Chosen.{chosen, There};
 use answers::Refusal;
 use catalogue_search::Wanted;
+use placing::NAME_SYMBOLS;
+use placing::PLACES;
+use placing::RECORD_LENGTH;
+use placing::RECORDS_START;
+use tables::layout;
+
+// The cell of the first record's owner.
+const FIRST_OWNER: usize = RECORDS_START + layout::RECORD_OWNER;
 
 // The place of the record, or the refusal.
 pub enum Choice {
@@ -30,7 +38,7 @@ fn works_on_anothers(tables: &[u32], user: u32, place: usize, work: bool) -> boo
     if !work {
         return false;
     }
-    tables[14 + 50 * place] != user
+    tables[FIRST_OWNER + RECORD_LENGTH * place] != user
 }
 
 // The record that look-up found.
@@ -49,7 +57,7 @@ fn found(tables: &[u32], user: u32, place: usize, work: bool) -> Choice
 }
 
 // "If neither is there: 12 when another user has a private file of that name, else 11."
-pub fn choose(tables: &[u32], user: u32, name: [u32; 12], work: bool) -> Choice
+pub fn choose(tables: &[u32], user: u32, name: [u32; NAME_SYMBOLS], work: bool) -> Choice
     requires { ⌜ length (now tables) ≡ tablesLength ⌝ }
     ensures verdict { λ r. ⌜ chosen work (now (tables .entry)) r ≡ openOld work user name (headings (now (tables .entry))) (othersIn (now (tables .entry))) ⌝ }
     ensures there { λ r. ⌜ There (now (tables .entry)) r ⌝ }
@@ -58,11 +66,11 @@ pub fn choose(tables: &[u32], user: u32, name: [u32; 12], work: bool) -> Choice
         return Choice::No(Refusal::Empty);
     }
     let place = catalogue_search::look_up(tables, user, &name);
-    if place < 64 {
+    if place < PLACES {
         return found(tables, user, place, work);
     }
     let anothers = catalogue_search::find(tables, Wanted::Anothers(user), &name, 0);
-    if anothers < 64 {
+    if anothers < PLACES {
         return Choice::No(Refusal::NotYours);
     }
     Choice::No(Refusal::Unknown)

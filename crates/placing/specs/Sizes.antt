@@ -1,5 +1,5 @@
 -- "Sizes". Assumes nothing.
-use Prim.Native.Nat.{ℕ, _+_, _*_, _/_, min}
+use Prim.Native.Nat.{ℕ, _+_, _-_, _*_, _/_, min}
 use mathlib.Core.List.{List, [], _∷_}
 use lib.ListN.{getD}
 
@@ -11,14 +11,17 @@ abbrev pub greatestEntry : ℕ
 greatestEntry = 3
 
 -- "the caller names the entry, and it is looked up in that user's row only": of 32 entries, the one of user u that the caller names e
+abbrev pub rowEntries : ℕ
+rowEntries = greatestEntry + 1
+
 abbrev pub entries : ℕ
-entries = 32
+entries = (greatestUser + 1) * rowEntries
 
 abbrev pub entryOf : (user entry : ℕ) → ℕ
-entryOf u e = 4 * u + e
+entryOf u e = rowEntries * u + e
 
 abbrev pub userOf : (entry : ℕ) → ℕ
-userOf i = i / 4
+userOf i = i / rowEntries
 
 -- "Catalogue: 64 places."
 abbrev pub places : ℕ
@@ -31,6 +34,10 @@ Cells = List ℕ
 -- "a block is 16 cells; a segment is 4 blocks, 64 cells."
 abbrev pub segmentCells : ℕ
 segmentCells = 64
+
+-- "store under 64 cells" is refused: one segment at least
+abbrev pub leastStore : ℕ
+leastStore = segmentCells
 
 -- "A fresh start gives it floor(length / 64) segments, at most 1,024"
 abbrev pub mostSegments : ℕ
@@ -57,6 +64,52 @@ widthOf s = getD (1 ∷ 2 ∷ 4 ∷ 8 ∷ 16 ∷ 32 ∷ []) s 0
 unfoldable pub elementsOf : (species : ℕ) → ℕ
 elementsOf s = getD (2048 ∷ 1024 ∷ 512 ∷ 256 ∷ 128 ∷ 64 ∷ []) s 0
 
--- "The tables are a second lent slice; docs/ fixes its one length": the number of segments, 64 records of 50 cells, 32 openings of 56
+-- 64 at the least, and so the stretches up to the greatest end are below this number
+abbrev pub leastElements : ℕ
+leastElements = 64
+
+abbrev pub mostStretches : ℕ
+mostStretches = (greatestEnd - 1) / leastElements + 1
+
+-- "Names have at most 12 symbols."
+abbrev pub nameSymbols : ℕ
+nameSymbols = 12
+
+-- "Pointer 0 is the begin, 1 the end, 2 the work pointer; 3 to 7 are own pointers."
+abbrev pub firstOwnPointer : ℕ
+firstOwnPointer = 3
+
+abbrev pub greatestPointer : ℕ
+greatestPointer = 7
+
+-- how many there are of all, and of own ones
+abbrev pub allPointers : ℕ
+allPointers = greatestPointer + 1
+
+abbrev pub ownPointers : ℕ
+ownPointers = allPointers - firstOwnPointer
+
+-- ---- "The tables are a second lent slice; docs/ fixes its one length": the number of segments, a record for each place, an opening for each
+-- entry
+
+-- a record: used, name, owner, private, species, begin, end, segments
+abbrev pub recordLength : ℕ
+recordLength = 1 + nameSymbols + 5 + mostHeld
+
+-- an opening: open, place, permit, species, pointers, name, segments
+abbrev pub openingLength : ℕ
+openingLength = 4 + allPointers + nameSymbols + mostHeld
+
+-- the first cells of the first record and of the first opening
+abbrev pub recordsStart : ℕ
+recordsStart = 1
+
+abbrev pub openingsStart : ℕ
+openingsStart = recordsStart + places * recordLength
+
 abbrev pub tablesLength : ℕ
-tablesLength = 4993
+tablesLength = openingsStart + entries * openingLength
+
+-- the lists of segments, one for each record and one for each opening
+abbrev pub lists : ℕ
+lists = places + entries

@@ -2,7 +2,7 @@
 // private field, and one is made of another by the placing rules alone.
 ghost use mathlib.Core.Path.{_≡_};
 ghost use Prim.Native.Nat.{_≤_, _<_, _*_};
-ghost use Rattle.placing.specs.Sizes.{segmentCells, greatestEnd, greatestSpecies, widthOf, elementsOf};
+ghost use Rattle.placing.specs.Sizes.{segmentCells, greatestEnd, greatestSpecies, widthOf, elementsOf, leastElements};
 ghost use Rattle.placing.specs.Placing.{
   segment,
   position,
@@ -15,11 +15,67 @@ ghost use Rattle.placing.specs.Placing.{
   slotOf,
 };
 
+// "Users 0 to 7. Each user has entries 0 to 3", a row of them: 32 in all.
+pub const GREATEST_USER: u32 = 7;
+
+pub const GREATEST_ENTRY: u32 = 3;
+
+pub const ROW_ENTRIES: u32 = GREATEST_ENTRY + 1;
+
+pub const ENTRIES: usize = ((GREATEST_USER + 1) * ROW_ENTRIES) as usize;
+
+// "Catalogue: 64 places."
+pub const PLACES: usize = 64;
+
+// "a segment is 4 blocks, 64 cells", and a store has one at least, and "at most 1,024"
+pub const SEGMENT_CELLS: usize = 64;
+
+pub const LEAST_STORE: usize = SEGMENT_CELLS;
+
+pub const MOST_SEGMENTS: u32 = 1024;
+
+// "Names have at most 12 symbols."
+pub const NAME_SYMBOLS: usize = 12;
+
+// "3 to 7 are own pointers": 8 in all
+pub const FIRST_OWN_POINTER: u32 = 3;
+
+pub const GREATEST_POINTER: u32 = 7;
+
+pub const ALL_POINTERS: usize = GREATEST_POINTER as usize + 1;
+
+// The places of a list of a file's segments; the lists of all records and openings.
+pub const LIST_LENGTH: usize = MOST_HELD as usize;
+
+pub const LISTS: usize = PLACES + ENTRIES;
+
+// The rows of a record and of an opening in the tables; where the first of each starts; "docs/ fixes its one length".
+pub const RECORD_LENGTH: usize = 1 + NAME_SYMBOLS + 5 + LIST_LENGTH;
+
+pub const OPENING_LENGTH: usize = 4 + ALL_POINTERS + NAME_SYMBOLS + LIST_LENGTH;
+
+pub const RECORDS_START: usize = 1;
+
+pub const OPENINGS_START: usize = RECORDS_START + PLACES * RECORD_LENGTH;
+
+pub const TABLES_LENGTH: usize = OPENINGS_START + ENTRIES * OPENING_LENGTH;
+
 // "Species 0 to 5 have elements of 1, 2, 4, 8, 16 and 32 bits"
+pub const GREATEST_SPECIES: u32 = 5;
+
 pub const WIDTHS: [u32; 6] = [1, 2, 4, 8, 16, 32];
 
 // "so E = 2048, 1024, 512, 256, 128 and 64 elements in a segment"
 pub const ELEMENTS: [u32; 6] = [2048, 1024, 512, 256, 128, 64];
+
+pub const GREATEST_END: u32 = 16777215;
+
+pub const MOST_HELD: u32 = 32;
+
+// A segment has 64 elements or more, and so the stretches up to the greatest end are below this number.
+pub const LEAST_ELEMENTS: u32 = 64;
+
+pub const MOST_STRETCHES: u32 = (GREATEST_END - 1) / LEAST_ELEMENTS + 1;
 
 // The number of a segment of the store.
 pub struct Segment(u32);
@@ -39,7 +95,7 @@ pub fn width(species: u32) -> u32
 
 pub fn elements(species: u32) -> u32
     requires { ⌜ species ≤ greatestSpecies ⌝ }
-    ensures { λ r. ⌜ (r ≡ elementsOf species) × (64 ≤ r) ⌝ }
+    ensures { λ r. ⌜ (r ≡ elementsOf species) × (leastElements ≤ r) ⌝ }
 {
     ELEMENTS[species as usize]
 }
@@ -62,7 +118,7 @@ impl Segment {
     pub fn start(self) -> Cell
         ensures { λ r. ⌜ r .0 ≡ self .0 * segmentCells ⌝ }
     {
-        Cell((self.0 as usize) * 64)
+        Cell((self.0 as usize) * SEGMENT_CELLS)
     }
 
     // "it is in cell floor(o·w/32) of that stretch's segment"
@@ -71,7 +127,7 @@ impl Segment {
         ensures { λ r. ⌜ r ≡ cellOf species self position ⌝ }
     {
         let before = position.bits_before(species);
-        Cell((self.0 as usize) * 64 + (before / 32) as usize)
+        Cell((self.0 as usize) * SEGMENT_CELLS + (before / 32) as usize)
     }
 }
 

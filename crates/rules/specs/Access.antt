@@ -5,7 +5,7 @@ use lib.Dec.{leb, ltb, eqb}
 use lib.ListN.{getD, drop}
 use Rattle.combine.specs.Lists.{firstWhere}
 use Rattle.combine.specs.Verdict.{Verdict, done, refuse_when_else_}
-use Rattle.placing.specs.Sizes.{mostHeld, greatestEnd}
+use Rattle.placing.specs.Sizes.{mostHeld, greatestEnd, firstOwnPointer, greatestPointer}
 use Rattle.placing.specs.Placing.{heldOf, claimOf}
 use Rattle.names.specs.Names.{Symbols, nameOf}
 use Rattle.rules.specs.Calls.{Act, rename, reset, newPointer, deletePointer, write, next, prev, askSpecies, askClaim, askPermit, askSymbol, askBegin, askEnd, askValue}
@@ -59,15 +59,15 @@ prevRule p h =
 -- "A new own pointer takes the lowest free name, which is the answer, and the value of a given pointer."
 unfoldable pub newPointerRule : (pointer : ℕ) → Handle → Verdict Use
 newPointerRule p h =
-    let q = 3 + firstWhere (eqb 0) (drop 3 (h .pointers)) in
+    let q = firstOwnPointer + firstWhere (eqb 0) (drop firstOwnPointer (h .pointers)) in
     refuse 4 when eqb (value h p) 0 else
-    refuse 21 when ltb 7 q else
+    refuse 21 when ltb greatestPointer q else
     done (does (plain q) (moved h q (value h p)) stays)
 
 -- "Only 3 to 7 can be deleted."
 unfoldable pub deletePointerRule : (pointer : ℕ) → Handle → Verdict Use
 deletePointerRule p h =
-    refuse 4 when eqb (value h p) 0 || ltb p 3 else
+    refuse 4 when eqb (value h p) 0 || ltb p firstOwnPointer else
     done (does (plain 0) (moved h p 0) stays)
 
 unfoldable pub valueRule : (pointer : ℕ) → Handle → Verdict Use

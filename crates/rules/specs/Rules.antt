@@ -8,7 +8,7 @@ use lib.Dec.{leb, ltb, eqb}
 use lib.ListN.{length, getD, set, replicate}
 use Rattle.combine.specs.Lists.{any, firstWhere, same}
 use Rattle.combine.specs.Verdict.{Verdict, refused, done, onDone, refuse_when_else_}
-use Rattle.placing.specs.Sizes.{greatestSpecies}
+use Rattle.placing.specs.Sizes.{greatestSpecies, ownPointers}
 use Rattle.names.specs.Names.{Symbols, nameOf, scratchName, isScratch}
 use Rattle.rules.specs.Calls.{Way, new, work, read, Request, opens, closes, abandons, uses}
 use Rattle.rules.specs.Headings.{Heading, Handle, value, passes, isSome}
@@ -36,7 +36,7 @@ lookUp u n rs =
 
 -- "New makes an empty scratch file with work permit."; "It starts with b = e = 1."
 abbrev pub newHandle : (species : ℕ) → Handle
-newHandle s = record { place = none; permit = true; name = scratchName; species = s; pointers = 1 ∷ 1 ∷ 1 ∷ replicate 5 0 }
+newHandle s = record { place = none; permit = true; name = scratchName; species = s; pointers = 1 ∷ 1 ∷ 1 ∷ replicate ownPointers 0 }
 
 unfoldable pub openNew : (species : ℕ) → Verdict Effect
 openNew s =
@@ -45,7 +45,7 @@ openNew s =
 
 -- "On opening, the work pointer stands at the begin value."; w says that the file is opened for work
 unfoldable pub openedAs : (forWork : Bool) (place : ℕ) → Heading → Handle
-openedAs w p r = record { place = some p; permit = w; name = r .name; species = r .species; pointers = r .begin ∷ r .end ∷ r .begin ∷ replicate 5 0 }
+openedAs w p r = record { place = some p; permit = w; name = r .name; species = r .species; pointers = r .begin ∷ r .end ∷ r .begin ∷ replicate ownPointers 0 }
 
 -- "Then 14: for work, if any opening of that record exists; for read, if a work opening of it exists."
 abbrev pub busy : (forWork : Bool) (place : ℕ) → Others → Bool

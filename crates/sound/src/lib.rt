@@ -1,4 +1,7 @@
 // Whether lent cells are sound tables.
+use placing::MOST_SEGMENTS;
+use placing::SEGMENT_CELLS;
+use placing::TABLES_LENGTH;
 ghost use mathlib.Core.Path.{_≡_};
 ghost use Rattle.tables.specs.Sound.{numberb, soundb};
 
@@ -9,17 +12,17 @@ fn number_sound(segments: u32, cells: usize) -> bool
     if segments < 1 {
         return false;
     }
-    if segments > 1024 {
+    if segments > MOST_SEGMENTS {
         return false;
     }
-    64 * (segments as usize) <= cells
+    SEGMENT_CELLS * (segments as usize) <= cells
 }
 
 // Whether any lent cells are sound tables beside a store of so many cells.
 pub fn sound(tables: &[u32], cells: usize) -> bool
     ensures { λ r. ⌜ r ≡ soundb cells (now (tables .entry)) ⌝ }
 {
-    if tables.len() != 4993 {
+    if tables.len() != TABLES_LENGTH {
         return false;
     }
     let segments = tables[0];

@@ -1,4 +1,8 @@
 // What a record's cells and an opening's have in common: an extent, and a list of segments.
+use placing::GREATEST_END;
+use placing::GREATEST_SPECIES;
+use placing::LIST_LENGTH;
+use placing::MOST_HELD;
 use placing::Position;
 ghost use mathlib.Core.Path.{_≡_};
 ghost use mathlib.Core.List.{map};
@@ -12,7 +16,7 @@ ghost use Rattle.tables.specs.Records.{extentb, listb};
 pub fn extent_sound(species: u32, begin: u32, end: u32) -> bool
     ensures { λ r. ⌜ r ≡ extentb species begin end ⌝ }
 {
-    if species > 5 {
+    if species > GREATEST_SPECIES {
         return false;
     }
     if begin < 1 {
@@ -21,10 +25,10 @@ pub fn extent_sound(species: u32, begin: u32, end: u32) -> bool
     if end < begin {
         return false;
     }
-    if end > 16777215 {
+    if end > GREATEST_END {
         return false;
     }
-    placing::held(species, Position::of(begin), Position::of(end)) <= 32
+    placing::held(species, Position::of(begin), Position::of(end)) <= MOST_HELD
 }
 
 // "segment numbers in range"; "Unused list places are zero"
@@ -35,5 +39,5 @@ pub fn list_sound(list: &[u32], held: usize, segments: u32) -> bool
     if !combine::all_below(&list[0..held], segments) {
         return false;
     }
-    combine::all_zero(&list[held..32])
+    combine::all_zero(&list[held..LIST_LENGTH])
 }

@@ -1,13 +1,23 @@
 // Whether the segments in all lists are distinct: one pass over the lists gives each segment a mark, that says whose file it is in
 // and at which stretch.
+use placing::ENTRIES;
+use placing::LISTS;
+use placing::MOST_SEGMENTS;
+use placing::MOST_STRETCHES;
+use placing::OPENING_LENGTH;
+use placing::OPENINGS_START;
+use placing::PLACES;
 use placing::Position;
+use placing::RECORD_LENGTH;
+use placing::RECORDS_START;
 use placing::Segment;
+use tables::layout;
 ghost use mathlib.Core.Path.{_≡_};
 ghost use mathlib.Core.Bool.{cond};
 ghost use Prim.Native.Nat.{ℕ, _+_, _-_, _*_, _<_, _≤_};
 ghost use lib.ListN.{length};
 ghost use lib.Dec.{eqb};
-ghost use Rattle.placing.specs.Sizes.{places, entries, mostSegments};
+ghost use Rattle.placing.specs.Sizes.{places, entries, mostSegments, mostStretches, lists};
 ghost use Rattle.placing.specs.Placing.{heldOf, stretchOf};
 ghost use Rattle.tables.specs.Lists.{distinctb};
 ghost use Rattle.tables.specs.laws.Sound.{Ranged};
@@ -15,8 +25,14 @@ ghost use Rattle.sound_lists.specs.Files.{FileCells};
 ghost use Rattle.sound_lists.specs.Marks.{mayMark, markTo, cellsFrom, Marked, Remembers};
 ghost use Rattle.sound_lists.specs.Seen.{Seen, Told};
 
+// A mark for each segment.
+const MARKS: usize = MOST_SEGMENTS as usize;
+
+// The list of the first opening.
+const FIRST_OPENING: u32 = PLACES as u32;
+
 // Gives the segment the mark, which is not 0; false if it has another already.
-fn mark(marks: &mut [u32; 1024], segment: Segment, given: u32) -> bool
+fn mark(marks: &mut [u32; MARKS], segment: Segment, given: u32) -> bool
     requires { ⌜ segment .0 < mostSegments ⌝ }
     ensures { λ r. ⌜
         (r ≡ mayMark (now (marks .entry)) (segment .0) given)
@@ -37,7 +53,7 @@ fn mark_numbers(
     numbers: usize,
     held: usize,
     first: u32,
-    marks: &mut [u32; 1024],
+    marks: &mut [u32; MARKS],
 ) -> bool
     requires { ⌜
         (numbers + held ≤ length (now tables))
@@ -59,8 +75,8 @@ fn mark_numbers(
     true
 }
 
-// Marks the segments of a file whose numbers stand from cell `numbers` on. A mark is 1 + family * 2^18 + stretch: a stretch is
-// below 2^18.
+// Marks the segments of a file whose numbers stand from cell `numbers` on. A mark says the family and the
+// stretch.
 fn mark_file(
     tables: &[u32],
     numbers: usize,
@@ -68,35 +84,35 @@ fn mark_file(
     species: u32,
     begin: Position,
     end: Position,
-    marks: &mut [u32; 1024],
+    marks: &mut [u32; MARKS],
 ) -> bool
     requires { ⌜ FileCells (now tables) numbers family species (begin .0) (end .0) ⌝ }
     ensures { λ r. ⌜
         Marked (now (marks .entry)) (cellsFrom (now (tables .entry)) numbers)
-        (1 + family * 262144 + stretchOf species (begin .0)) (heldOf species (begin .0) (end .0)) (now (marks .exit)) r
+        (1 + family * mostStretches + stretchOf species (begin .0)) (heldOf species (begin .0) (end .0)) (now (marks .exit)) r
         ⌝ }
 {
     let held = placing::held(species, begin, end) as usize;
-    let first = 1 + family * 262144 + begin.stretch(species);
+    let first = 1 + family * MOST_STRETCHES + begin.stretch(species);
     mark_numbers(tables, numbers, held, first, marks)
 }
 
 // Marks the segments of the record at a place.
-fn mark_record(tables: &[u32], place: usize, marks: &mut [u32; 1024]) -> bool
+fn mark_record(tables: &[u32], place: usize, marks: &mut [u32; MARKS]) -> bool
     requires { ⌜ Ranged (now tables) × (place < places) × Remembers (Seen (now tables) place 0) (now marks) ⌝ }
     ensures { λ r. ⌜ Told (now (tables .entry)) place (now (marks .exit)) r ⌝ }
 {
-    let base = 1 + 50 * place;
+    let base = RECORDS_START + RECORD_LENGTH * place;
     if tables[base] == 0 {
         return true;
     }
-    let begin = Position::of(tables[base + 16]);
-    let end = Position::of(tables[base + 17]);
+    let begin = Position::of(tables[base + layout::RECORD_BEGIN]);
+    let end = Position::of(tables[base + layout::RECORD_END]);
     mark_file(
         tables,
-        base + 18,
+        base + layout::RECORD_SEGMENTS,
         place as u32,
-        tables[base + 15],
+        tables[base + layout::RECORD_SPECIES],
         begin,
         end,
         marks,
@@ -106,31 +122,31 @@ fn mark_record(tables: &[u32], place: usize, marks: &mut [u32; 1024]) -> bool
 // Whose file an entry has open: its record's place, or its own list number where it names no record.
 fn family_of(place: u32, entry: usize) -> u32
     requires { ⌜ entry < entries ⌝ }
-    ensures { λ r. ⌜ r ≡ cond (eqb place 0) (64 + entry) (place - 1) ⌝ }
+    ensures { λ r. ⌜ r ≡ cond (eqb place 0) (places + entry) (place - 1) ⌝ }
 {
     if place == 0 {
-        return 64 + entry as u32;
+        return FIRST_OPENING + entry as u32;
     }
     place - 1
 }
 
 // Marks the segments of the opening at an entry.
-fn mark_opening(tables: &[u32], entry: usize, marks: &mut [u32; 1024]) -> bool
-    requires { ⌜ Ranged (now tables) × (entry < entries) × Remembers (Seen (now tables) (64 + entry) 0) (now marks) ⌝ }
-    ensures { λ r. ⌜ Told (now (tables .entry)) (64 + entry) (now (marks .exit)) r ⌝ }
+fn mark_opening(tables: &[u32], entry: usize, marks: &mut [u32; MARKS]) -> bool
+    requires { ⌜ Ranged (now tables) × (entry < entries) × Remembers (Seen (now tables) (places + entry) 0) (now marks) ⌝ }
+    ensures { λ r. ⌜ Told (now (tables .entry)) (places + entry) (now (marks .exit)) r ⌝ }
 {
-    let base = 3201 + 56 * entry;
+    let base = OPENINGS_START + OPENING_LENGTH * entry;
     if tables[base] == 0 {
         return true;
     }
-    let family = family_of(tables[base + 1], entry);
-    let begin = Position::of(tables[base + 4]);
-    let end = Position::of(tables[base + 5]);
+    let family = family_of(tables[base + layout::OPENING_PLACE], entry);
+    let begin = Position::of(tables[base + layout::OPENING_BEGIN]);
+    let end = Position::of(tables[base + layout::OPENING_END]);
     mark_file(
         tables,
-        base + 24,
+        base + layout::OPENING_SEGMENTS,
         family,
-        tables[base + 3],
+        tables[base + layout::OPENING_SPECIES],
         begin,
         end,
         marks,
@@ -138,24 +154,24 @@ fn mark_opening(tables: &[u32], entry: usize, marks: &mut [u32; 1024]) -> bool
 }
 
 // Marks the segments of list i.
-fn mark_list(tables: &[u32], i: usize, marks: &mut [u32; 1024]) -> bool
-    requires { ⌜ Ranged (now tables) × (i < 96) × Remembers (Seen (now tables) i 0) (now marks) ⌝ }
+fn mark_list(tables: &[u32], i: usize, marks: &mut [u32; MARKS]) -> bool
+    requires { ⌜ Ranged (now tables) × (i < lists) × Remembers (Seen (now tables) i 0) (now marks) ⌝ }
     ensures { λ r. ⌜ Told (now (tables .entry)) i (now (marks .exit)) r ⌝ }
 {
-    if i < 64 {
+    if i < PLACES {
         return mark_record(tables, i, marks);
     }
-    mark_opening(tables, i - 64, marks)
+    mark_opening(tables, i - PLACES, marks)
 }
 
 // "segments in all lists are distinct, but for a record and its openings at one stretch": one pass with marks.
 pub fn distinct(tables: &[u32]) -> bool
     requires { ⌜ Ranged (now tables) ⌝ }
-    ensures { λ r. ⌜ r ≡ distinctb (now (tables .entry)) 96 ⌝ }
+    ensures { λ r. ⌜ r ≡ distinctb (now (tables .entry)) lists ⌝ }
 {
-    let mut marks = [0u32; 1024];
+    let mut marks = [0u32; MARKS];
     let mut i = 0;
-    while i < 96 {
+    while i < LISTS {
         if !mark_list(tables, i, &mut marks) {
             return false;
         }

@@ -1,14 +1,24 @@
 // "No two records of one owner have one name; no two public records have one name."
+use placing::PLACES;
+use placing::RECORD_LENGTH;
+use placing::RECORDS_START;
+use tables::layout;
 ghost use mathlib.Core.Path.{_≡_};
 ghost use mathlib.Core.Bool.{true};
 ghost use Prim.Native.Nat.{ℕ, _+_, _-_, _≤_, _<_};
 ghost use lib.ListN.{length};
 ghost use Rattle.combine.specs.Below.{allBelow};
-ghost use Rattle.placing.specs.Sizes.{places, tablesLength};
+ghost use Rattle.placing.specs.Sizes.{places, tablesLength, recordLength, lists};
 ghost use Rattle.tables.specs.Layout.{recordOf, recordAt};
 ghost use Rattle.tables.specs.Fields.{isUsed};
 ghost use Rattle.tables.specs.Records.{clash, noClashb};
 ghost use Rattle.sound_names.specs.Keys.{keyOf, shortOf, publicOf, kinb, newb, apartb, Spelled, Halved, Keyed};
+
+// The second six symbols of a name, in a record's row.
+const SECOND_HALF: usize = layout::RECORD_NAME + 6;
+
+// The cell of the first record's private flag.
+const FIRST_PRIVATE: usize = RECORDS_START + layout::RECORD_PRIVATE;
 
 fn wide(cell: u32) -> u64
     ensures { λ r. ⌜ (r ≡ cell) × (r < 4294967296) ⌝ }
@@ -18,10 +28,10 @@ fn wide(cell: u32) -> u64
 
 // Six symbols of a used record's name, from cell `at` of its row on, as one number after a 1; 0 for an unused record.
 fn key(row: &[u32], at: usize) -> u64
-    requires { ⌜ (length (now row) ≡ 50) × (1 ≤ at) × (at ≤ 7) ⌝ }
+    requires { ⌜ (length (now row) ≡ recordLength) × (1 ≤ at) × (at ≤ 7) ⌝ }
     ensures { λ r. ⌜ r ≡ keyOf (recordOf (now (row .entry))) (at - 1) ⌝ }
 {
-    if row[0] == 0 {
+    if row[layout::RECORD_USED] == 0 {
         return 0;
     }
     let two = (64 + wide(row[at])) * 64 + wide(row[at + 1]);
@@ -53,21 +63,21 @@ fn public_short(high: u64, low: u64, private: u32) -> u32
 
 // Of one owner, or both public.
 fn kin(left: &[u32], right: &[u32]) -> bool
-    requires { ⌜ (length (now left) ≡ 50) × (length (now right) ≡ 50) ⌝ }
+    requires { ⌜ (length (now left) ≡ recordLength) × (length (now right) ≡ recordLength) ⌝ }
     ensures { λ r. ⌜ r ≡ kinb (recordOf (now (left .entry))) (recordOf (now (right .entry))) ⌝ }
 {
-    if left[13] == right[13] {
+    if left[layout::RECORD_OWNER] == right[layout::RECORD_OWNER] {
         return true;
     }
-    if left[14] != 0 {
+    if left[layout::RECORD_PRIVATE] != 0 {
         return false;
     }
-    right[14] == 0
+    right[layout::RECORD_PRIVATE] == 0
 }
 
 // Whether the used record at place p clashes with the one at place q before it. Names that agree at all mostly agree at
 // their beginning, so that the later half is compared first.
-fn clashes(tables: &[u32], high: &[u64; 64], low: &[u64; 64], p: usize, q: usize) -> bool
+fn clashes(tables: &[u32], high: &[u64; PLACES], low: &[u64; PLACES], p: usize, q: usize) -> bool
     requires { ⌜ Halved (now tables) (now high) (now low) (p + 1) × (q < p) × (isUsed (recordAt (now tables) p) ≡ true) ⌝ }
     ensures { λ r. ⌜ r ≡ clash (recordAt (now (tables .entry)) p) (recordAt (now (tables .entry)) q) ⌝ }
 {
@@ -77,10 +87,10 @@ fn clashes(tables: &[u32], high: &[u64; 64], low: &[u64; 64], p: usize, q: usize
     if high[p] != high[q] {
         return false;
     }
-    let here = 1 + 50 * p;
-    let beyond = here + 50;
-    let there = 1 + 50 * q;
-    let after = there + 50;
+    let here = RECORDS_START + RECORD_LENGTH * p;
+    let beyond = here + RECORD_LENGTH;
+    let there = RECORDS_START + RECORD_LENGTH * q;
+    let after = there + RECORD_LENGTH;
     kin(&tables[here..beyond], &tables[there..after])
 }
 
@@ -112,8 +122,8 @@ fn apart(owned: &[u32], public: &[u32], private: u32, p: usize) -> bool
 
 fn alone(
     tables: &[u32],
-    high: &[u64; 64],
-    low: &[u64; 64],
+    high: &[u64; PLACES],
+    low: &[u64; PLACES],
     owned: &[u32],
     public: &[u32],
     p: usize,
@@ -122,7 +132,7 @@ fn alone(
     ensures { λ r. ⌜ r ≡ noClashb (now (tables .entry)) p ⌝ }
 {
     // Records that clash have one short key: where no record before has it, none is compared one by one.
-    if apart(owned, public, tables[15 + 50 * p], p) {
+    if apart(owned, public, tables[FIRST_PRIVATE + RECORD_LENGTH * p], p) {
         return true;
     }
     let mut q = 0;
@@ -141,25 +151,25 @@ pub fn names_sound(tables: &[u32]) -> bool
     requires { ⌜ (length (now tables) ≡ tablesLength) × ((p : ℕ) → p < places → Spelled (recordAt (now tables) p)) ⌝ }
     ensures { λ r. ⌜ r ≡ allBelow places (noClashb (now (tables .entry))) ⌝ }
 {
-    let mut high = [0u64; 64];
-    let mut low = [0u64; 64];
-    let mut owned = [0u32; 64];
-    let mut public = [0u32; 64];
+    let mut high = [0u64; PLACES];
+    let mut low = [0u64; PLACES];
+    let mut owned = [0u32; PLACES];
+    let mut public = [0u32; PLACES];
     let mut p = 0;
-    while p < 64 {
-        let from = 1 + 50 * p;
+    while p < PLACES {
+        let from = RECORDS_START + RECORD_LENGTH * p;
         if tables[from] == 0 {
             p += 1;
             continue;
         }
-        let to = from + 50;
+        let to = from + RECORD_LENGTH;
         let row = &tables[from..to];
-        let first = key(row, 1);
-        let second = key(row, 7);
+        let first = key(row, layout::RECORD_NAME);
+        let second = key(row, SECOND_HALF);
         high[p] = first;
         low[p] = second;
-        owned[p] = short(first, second, row[13]);
-        public[p] = public_short(first, second, row[14]);
+        owned[p] = short(first, second, row[layout::RECORD_OWNER]);
+        public[p] = public_short(first, second, row[layout::RECORD_PRIVATE]);
         if !alone(tables, &high, &low, &owned, &public, p) {
             return false;
         }

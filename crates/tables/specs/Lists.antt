@@ -3,7 +3,7 @@
 use Prim.Native.Nat.{ℕ, _+_, _-_}
 use mathlib.Core.Bool.{Bool, true, _&&_, cond}
 use lib.Dec.{eqb, ltb}
-use Rattle.placing.specs.Sizes.{Cells}
+use Rattle.placing.specs.Sizes.{Cells, places}
 use Rattle.combine.specs.Below.{allBelow}
 use Rattle.placing.specs.Placing.{stretchOf}
 use Rattle.tables.specs.Layout.{recordAt, openingAt}
@@ -11,22 +11,22 @@ use Rattle.tables.specs.Fields.{heldByRecord, heldByOpening, valueOf, nu
 
 -- how many segments list i has, its kth number, and that one's stretch
 unfoldable pub heldIn : (tables : Cells) (list : ℕ) → ℕ
-heldIn t i = cond (ltb i 64) (heldByRecord (recordAt t i)) (heldByOpening (openingAt t (i - 64)))
+heldIn t i = cond (ltb i places) (heldByRecord (recordAt t i)) (heldByOpening (openingAt t (i - places)))
 
 unfoldable pub listed : (tables : Cells) (list slot : ℕ) → ℕ
-listed t i k = cond (ltb i 64) (numberAt (recordAt t i .segments) k) (numberAt (openingAt t (i - 64) .segments) k)
+listed t i k = cond (ltb i places) (numberAt (recordAt t i .segments) k) (numberAt (openingAt t (i - places) .segments) k)
 
 unfoldable pub stretchIn : (tables : Cells) (list slot : ℕ) → ℕ
 stretchIn t i k =
     let r = recordAt t i in
-    let o = openingAt t (i - 64) in
-    cond (ltb i 64) (stretchOf (r .species) (r .begin .0) + k) (stretchOf (o .species) (valueOf o 0) + k)
+    let o = openingAt t (i - places) in
+    cond (ltb i places) (stretchOf (r .species) (r .begin .0) + k) (stretchOf (o .species) (valueOf o 0) + k)
 
 -- whose file it is: a record's place; for an opening its record's place, or its own list number where it has none
 unfoldable pub familyOf : (tables : Cells) (list : ℕ) → ℕ
 familyOf t i =
-    let o = openingAt t (i - 64) in
-    cond (ltb i 64) i (cond (eqb (o .place) 0) i (o .place - 1))
+    let o = openingAt t (i - places) in
+    cond (ltb i places) i (cond (eqb (o .place) 0) i (o .place - 1))
 
 -- the same as a test
 unfoldable pub agree : (tables : Cells) (list slot list′ slot′ : ℕ) → Bool

@@ -1,6 +1,6 @@
 -- When the opening at entry i of the cells t is sound, beside the records; entry i is user i / 4's. The rules stand in document 01's order.
 -- Assumes nothing.
-use Prim.Native.Nat.{ℕ, _+_}
+use Prim.Native.Nat.{ℕ, _+_, _-_}
 use mathlib.Core.Bool.{Bool, true, not, _||_, cond}
 use mathlib.Core.List.{[], _∷_}
 use lib.Dec.{eqb, leb}
@@ -8,7 +8,7 @@ use lib.ListN.{getD}
 use Rattle.combine.specs.Below.{allBelow}
 use Rattle.combine.specs.Rows.{allOf}
 use Rattle.combine.specs.Lists.{same}
-use Rattle.placing.specs.Sizes.{Cells, entries, userOf, places, mostHeld, greatestEnd}
+use Rattle.placing.specs.Sizes.{Cells, entries, userOf, places, mostHeld, greatestEnd, nameSymbols, allPointers}
 use Rattle.placing.specs.Placing.{heldOf}
 use Rattle.names.specs.Names.{openingNameb}
 use Rattle.tables.specs.declared.Record.{Record}
@@ -47,7 +47,7 @@ besideRecordb t i o = cond (eqb (o .place) 0) true (cond (eqb (o .permit) 0) (re
 
 -- "the values of pointers 2 to 7, where they exist, are 1 to the greatest end value": the work pointer always exists
 unfoldable pub pointersb : Opening → Bool
-pointersb o = allOf (leb 1 (valueOf o 2) ∷ allBelow 6 (λ k. leb (valueOf o (2 + k)) greatestEnd) ∷ [])
+pointersb o = allOf (leb 1 (valueOf o 2) ∷ allBelow (allPointers - 2) (λ k. leb (valueOf o (2 + k)) greatestEnd) ∷ [])
 
 -- "its species, begin, end and number of held segments are as for records; the values of pointers ..; all places and segment numbers are in
 -- range"
@@ -72,8 +72,8 @@ closedb o =
     (eqb (o .place) 0
     ∷ eqb (o .permit) 0
     ∷ eqb (o .species) 0
-    ∷ allBelow 8 (λ k. eqb (valueOf o k) 0)
-    ∷ allBelow 12 (λ k. eqb (getD (o .name) k 0) 0)
+    ∷ allBelow allPointers (λ k. eqb (valueOf o k) 0)
+    ∷ allBelow nameSymbols (λ k. eqb (getD (o .name) k 0) 0)
     ∷ allBelow mostHeld (λ k. eqb (numberAt (o .segments) k) 0)
     ∷ [])
 

@@ -4,12 +4,13 @@ use mathlib.Core.List.{List, map}
 use lib.Dec.{eqb}
 use lib.ListN.{drop}
 use Rattle.combine.specs.Lists.{firstWhere}
+use Rattle.placing.specs.Sizes.{firstOwnPointer}
 use Rattle.tables.specs.declared.Opening.{Opening}
 use Rattle.tables.specs.Layout.{positionNumber}
 
 -- "A new own pointer takes the lowest free name": 8, where none of 3 to 7 is free
 unfoldable pub lowestFreePointer : Opening → ℕ
-lowestFreePointer o = 3 + firstWhere (eqb 0) (drop 3 (map positionNumber (o .pointers)))
+lowestFreePointer o = firstOwnPointer + firstWhere (eqb 0) (drop firstOwnPointer (map positionNumber (o .pointers)))
 
 -- the opening with another name
 abbrev pub titled : Opening → List ℕ → Opening

@@ -8,7 +8,7 @@ use Rattle.combine.specs.Below.{allBelow}
 use Rattle.combine.specs.Rows.{allOf}
 use Rattle.combine.specs.Lists.{same}
 use Rattle.placing.specs.declared.Segment.{Segment}
-use Rattle.placing.specs.Sizes.{Cells, greatestUser, places, mostHeld, greatestEnd, greatestSpecies}
+use Rattle.placing.specs.Sizes.{Cells, greatestUser, places, mostHeld, greatestEnd, greatestSpecies, nameSymbols}
 use Rattle.placing.specs.Placing.{heldOf}
 use Rattle.names.specs.Names.{nameb}
 use Rattle.tables.specs.declared.Record.{Record}
@@ -38,7 +38,7 @@ usedb n r =
 unfoldable pub unusedb : Record → Bool
 unusedb r =
     allOf
-    (allBelow 12 (λ k. eqb (getD (r .name) k 0) 0)
+    (allBelow nameSymbols (λ k. eqb (getD (r .name) k 0) 0)
     ∷ eqb (r .owner) 0
     ∷ eqb (r .private) 0
     ∷ eqb (r .species) 0

@@ -5,7 +5,7 @@ use mathlib.Core.List.{[], _∷_}
 use lib.Dec.{eqb, leb}
 use lib.ListN.{length}
 use Rattle.combine.specs.Rows.{allOf}
-use Rattle.placing.specs.Sizes.{Cells, segmentCells, mostSegments, tablesLength}
+use Rattle.placing.specs.Sizes.{Cells, segmentCells, mostSegments, tablesLength, lists}
 use Rattle.tables.specs.Layout.{segmentsIn}
 use Rattle.tables.specs.Records.{recordsb}
 use Rattle.tables.specs.Openings.{openingsb}
@@ -23,6 +23,6 @@ soundb cells t =
     (eqb (length t) tablesLength
     ∷ recordsb t (segmentsIn t)
     ∷ openingsb t
-    ∷ distinctb t 96
+    ∷ distinctb t lists
     ∷ numberb (segmentsIn t) cells
     ∷ [])

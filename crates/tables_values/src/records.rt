@@ -3,27 +3,30 @@ ghost use mathlib.Core.Path.{_≡_};
 ghost use mathlib.Core.List.{[], _∷_};
 ghost use Prim.Native.Nat.{_<_};
 ghost use lib.ListN.{length};
-ghost use Rattle.placing.specs.Sizes.{places, tablesLength};
+ghost use Rattle.placing.specs.Sizes.{places, tablesLength, recordLength};
 ghost use Rattle.tables.specs.Layout.{recordOf, recordCells, recordAt, putRecord};
 use crate::rows;
 use placing::Position;
+use placing::RECORD_LENGTH;
+use placing::RECORDS_START;
 use tables::Record;
+use tables::layout;
 
 // The record of 50 cells.
 fn record_from(row: &[u32]) -> Record
-    requires { ⌜ length (now row) ≡ 50 ⌝ }
+    requires { ⌜ length (now row) ≡ recordLength ⌝ }
     ensures { λ r. ⌜ r ≡ recordOf (now (row .entry)) ⌝ }
 {
-    let name = rows::name_from(&row[1..13]);
-    let begin = Position::of(row[16]);
-    let end = Position::of(row[17]);
-    let segments = rows::segments_from(&row[18..50]);
+    let name = rows::name_from(&row[layout::RECORD_NAME..layout::RECORD_OWNER]);
+    let begin = Position::of(row[layout::RECORD_BEGIN]);
+    let end = Position::of(row[layout::RECORD_END]);
+    let segments = rows::segments_from(&row[layout::RECORD_SEGMENTS..RECORD_LENGTH]);
     Record {
-        used: row[0],
+        used: row[layout::RECORD_USED],
         name,
-        owner: row[13],
-        private: row[14],
-        species: row[15],
+        owner: row[layout::RECORD_OWNER],
+        private: row[layout::RECORD_PRIVATE],
+        species: row[layout::RECORD_SPECIES],
         begin,
         end,
         segments,
@@ -35,8 +38,8 @@ pub fn load_record(tables: &[u32], place: usize) -> Record
     requires { ⌜ (length (now tables) ≡ tablesLength) × (place < places) ⌝ }
     ensures { λ r. ⌜ r ≡ recordAt (now (tables .entry)) place ⌝ }
 {
-    let from = 1 + 50 * place;
-    let beyond = from + 50;
+    let from = RECORDS_START + RECORD_LENGTH * place;
+    let beyond = from + RECORD_LENGTH;
     record_from(&tables[from..beyond])
 }
 
@@ -61,22 +64,25 @@ fn put_extent(
 
 // The 50 cells become the record's.
 fn put_record_row(row: &mut [u32], filed: Record)
-    requires { ⌜ length (now row) ≡ 50 ⌝ }
+    requires { ⌜ length (now row) ≡ recordLength ⌝ }
     ensures { λ _. ⌜ now (row .exit) ≡ recordCells filed ⌝ }
 {
     let name = filed.name;
     let segments = filed.segments;
-    combine::fill_cells(&mut row[0..1], filed.used);
-    rows::put_name(&mut row[1..13], name);
+    combine::fill_cells(
+        &mut row[layout::RECORD_USED..layout::RECORD_NAME],
+        filed.used,
+    );
+    rows::put_name(&mut row[layout::RECORD_NAME..layout::RECORD_OWNER], name);
     put_extent(
-        &mut row[13..18],
+        &mut row[layout::RECORD_OWNER..layout::RECORD_SEGMENTS],
         filed.owner,
         filed.private,
         filed.species,
         filed.begin,
         filed.end,
     );
-    rows::put_segments(&mut row[18..50], segments);
+    rows::put_segments(&mut row[layout::RECORD_SEGMENTS..RECORD_LENGTH], segments);
 }
 
 // The record becomes that at a place of the catalogue.
@@ -84,7 +90,7 @@ pub fn put_record(tables: &mut [u32], place: usize, filed: Record)
     requires { ⌜ (length (now tables) ≡ tablesLength) × (place < places) ⌝ }
     ensures { λ _. ⌜ now (tables .exit) ≡ putRecord (now (tables .entry)) place filed ⌝ }
 {
-    let at = 1 + 50 * place;
-    let beyond = at + 50;
+    let at = RECORDS_START + RECORD_LENGTH * place;
+    let beyond = at + RECORD_LENGTH;
     put_record_row(&mut tables[at..beyond], filed);
 }

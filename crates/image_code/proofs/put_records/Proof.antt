@@ -6,7 +6,7 @@ use denote.Ref.{now}
 use native.Mathlib.Omega.{arith}
 use lib.ListN.{length}
 use Rattle.packing.specs.Packing.{packed, cellsOf}
-use Rattle.image.specs.Image.{form1, recordWidths, recordImage}
+use Rattle.image.specs.Image.{form1, imageLength, recordWidths, recordImage}
 use Rattle.image_code.specs.Fits.{Writable, records-writable}
 use Rattle.image_code.specs.Lengths.{record-image-length}
 use Rattle.image_code.proofs.Turns.{mid-part, mid-is, placed, none-placed, one-placed, all-placed, image-full}
@@ -107,7 +107,7 @@ returns : tie.Need-returns Inv-loop μ-loop
 returns c =
     let s = c .before .before .before .before in
     let l = c .before .loop in
-    image-full (now (s .args .image)) _ (l .image) (s .pre .1) (all-placed (recordImage form1 (now (s .args .tables))) 14 (record-image-length (now (s .args .tables))) (now (s .args .image)) (l .image) (l .p) 897 (omega arith) refl (l .inv .2))
+    image-full (now (s .args .image)) _ (l .image) (s .pre .1) (all-placed (recordImage form1 (now (s .args .tables))) 14 (record-image-length (now (s .args .tables))) (now (s .args .image)) (l .image) (l .p) (imageLength form1) (omega arith) refl (l .inv .2))
 
 pub put-records-spec : {M : Type 1} → statement M
 put-records-spec =

@@ -6,6 +6,7 @@ use denote.Ref.{now}
 use native.Mathlib.Omega.{arith}
 use lib.ListN.{length}
 use Rattle.packing.specs.Packing.{unpacked, rowOf}
+use Rattle.placing.specs.Sizes.{openingsStart}
 use Rattle.image.specs.Image.{form1, recordWidths, recordFrom}
 use Rattle.image_code.specs.Lengths.{record-from-length}
 use Rattle.image_code.proofs.Turns.{mid-part, mid-is, placed, none-placed, not-placed, one-placed, all-placed, zeros-come}
@@ -105,7 +106,7 @@ returns : tie.Need-returns Inv-loop μ-loop
 returns c =
     let s = c .before .before .before .before in
     let l = c .before .loop in
-    all-placed (recordFrom form1 (now (s .args .image))) 50 (record-from-length (now (s .args .image))) (now (s .args .tables)) (l .tables) (l .p) 3201 (omega arith) refl (l .inv .2)
+    all-placed (recordFrom form1 (now (s .args .image))) 50 (record-from-length (now (s .args .image))) (now (s .args .tables)) (l .tables) (l .p) openingsStart (omega arith) refl (l .inv .2)
 
 pub take-records-spec : {M : Type 1} → statement M
 take-records-spec =

@@ -5,7 +5,7 @@ use native.Mathlib.Nat.{mod-lt, suc-mul, mul-le-mul-right, mul-lt-mul-of-pos-rig
 use native.Mathlib.Omega.{arith}
 use lib.Arith.{mod-mul}
 use lib.Dec.{lit≤}
-use Rattle.placing.specs.Sizes.{greatestSpecies, widthOf, elementsOf}
+use Rattle.placing.specs.Sizes.{segmentCells, greatestSpecies, widthOf, elementsOf, leastElements}
 use Rattle.placing.specs.declared.Segment.{Segment}
 use Rattle.placing.specs.declared.Position.{Position}
 use Rattle.placing.specs.Placing.{stretchOf, offsetOf, cellOf, bitOf}
@@ -15,7 +15,7 @@ pub record Sized (w E : ℕ) : Type 0 where
   pub perCell : ℕ
   pub some : 0 < perCell
   pub positive : 0 < w
-  pub many : 64 ≤ E
+  pub many : leastElements ≤ E
   pub few : E ≤ 2048
   pub whole : perCell * w ≡ 32
   pub full : E * w ≡ 2048
@@ -31,7 +31,7 @@ sized (suc (suc (suc (suc (suc zero))))) h = record { perCell = 1; some = lit≤
 sized (suc (suc (suc (suc (suc (suc s)))))) h = absurd (omega arith)
 
 module _ (s : ℕ) (h : s ≤ greatestSpecies) where
-  pub elements-many : 64 ≤ elementsOf s
+  pub elements-many : leastElements ≤ elementsOf s
   elements-many = sized s h .many
 
   pub offset-lt : (x : ℕ) → offsetOf s x < elementsOf s
@@ -54,7 +54,7 @@ module _ (s : ℕ) (h : s ≤ greatestSpecies) where
       omega (arith, e, mul-mod-left o w, z .whole, suc-mul q w, mul-le-mul-right {m = suc q} {n = k} w (mod-lt (o * w / w) (z .some)))
 
   -- an element lies within its segment
-  pub cell-in : (g : Segment) (x : Position) → (g .0 * 64 ≤ cellOf s g x .0) × (cellOf s g x .0 < g .0 * 64 + 64)
+  pub cell-in : (g : Segment) (x : Position) → (g .0 * segmentCells ≤ cellOf s g x .0) × (cellOf s g x .0 < g .0 * segmentCells + segmentCells)
   unfolding cellOf
   cell-in g x = (omega arith, omega (arith, offset-bits (x .0)))
 

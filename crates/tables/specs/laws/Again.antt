@@ -6,6 +6,7 @@ use native.Mathlib.Omega.{arith}
 use lib.ListN.{length, getD, take, drop, length-append, length-map, set}
 use lib.Seq.{getD-append-add, drop-append-add, take-at, take-all}
 use Rattle.combine.specs.Lists.{part}
+use Rattle.placing.specs.Sizes.{mostHeld, nameSymbols, allPointers, recordLength, openingLength}
 use Rattle.placing.specs.declared.Segment.{Segment}
 use Rattle.placing.specs.declared.Position.{Position}
 use Rattle.placing.specs.Placing.{segment, position}
@@ -15,13 +16,13 @@ use Rattle.tables.specs.Layout.{segmentNumber, positionNumber, recordOf,
 
 -- the lists have the lengths of the arrays
 pub record ShapedRecord (r : Record) : Type 0 where
-  pub name12 : length (r .name) ≡ 12
-  pub segments32 : length (r .segments) ≡ 32
+  pub name12 : length (r .name) ≡ nameSymbols
+  pub segments32 : length (r .segments) ≡ mostHeld
 
 pub record ShapedOpening (o : Opening) : Type 0 where
-  pub pointers8 : length (o .pointers) ≡ 8
-  pub name12 : length (o .name) ≡ 12
-  pub segments32 : length (o .segments) ≡ 32
+  pub pointers8 : length (o .pointers) ≡ allPointers
+  pub name12 : length (o .name) ≡ nameSymbols
+  pub segments32 : length (o .segments) ≡ mostHeld
 
 -- ---- lists
 
@@ -59,12 +60,12 @@ module _ (r : Record) (w : ShapedRecord r) where
   rest : List ℕ
   rest = r .owner ∷ r .private ∷ r .species ∷ r .begin .0 ∷ r .end .0 ∷ map segmentNumber (r .segments)
 
-  pub length-record : length (recordCells r) ≡ 50
+  pub length-record : length (recordCells r) ≡ recordLength
   unfolding recordCells rest
   length-record =
       let l : length (map segmentNumber (r .segments)) ≡ 32 = length-map (r .segments) segmentNumber ∙ w .segments32 in
       let e : length (r .name ++ rest) ≡ length (r .name) + suc (suc (suc (suc (suc (length (map segmentNumber (r .segments))))))) = length-append (r .name) rest in
-      let m : suc (length (r .name ++ rest)) ≡ 50 = omega (arith, e, l, w .name12) in
+      let m : suc (length (r .name ++ rest)) ≡ recordLength = omega (arith, e, l, w .name12) in
       m
 
   pub record-again : recordOf (recordCells r) ≡ r
@@ -96,14 +97,14 @@ module _ (o : Opening) (w : ShapedOpening o) where
   points : List ℕ
   points = map positionNumber (o .pointers)
 
-  pub length-opening : length (openingCells o) ≡ 56
+  pub length-opening : length (openingCells o) ≡ openingLength
   unfolding openingCells after-pointers points
   length-opening =
       let l : length (map segmentNumber (o .segments)) ≡ 32 = length-map (o .segments) segmentNumber ∙ w .segments32 in
       let k : length points ≡ 8 = length-map (o .pointers) positionNumber ∙ w .pointers8 in
       let e : length (points ++ after-pointers) ≡ length points + length after-pointers = length-append points after-pointers in
       let f : length after-pointers ≡ length (o .name) + length (map segmentNumber (o .segments)) = length-append (o .name) (map segmentNumber (o .segments)) in
-      let m : suc (suc (suc (suc (length (points ++ after-pointers))))) ≡ 56 = omega (arith, e, f, k, l, w .name12) in
+      let m : suc (suc (suc (suc (length (points ++ after-pointers))))) ≡ openingLength = omega (arith, e, f, k, l, w .name12) in
       m
 
   pub opening-again : openingOf (openingCells o) ≡ o

@@ -12,7 +12,7 @@ use Rattle.combine.specs.Below.{allBelow}
 use Rattle.combine.specs.laws.Below.{all-at}
 use Rattle.combine.specs.laws.Rows.{each-of}
 use Rattle.combine.specs.laws.Same.{same-true}
-use Rattle.placing.specs.Sizes.{entries, userOf, places, mostHeld, greatestEnd}
+use Rattle.placing.specs.Sizes.{entries, userOf, places, mostHeld, greatestEnd, nameSymbols, allPointers}
 use Rattle.placing.specs.Placing.{heldOf}
 use Rattle.names.specs.Names.{nameb}
 use Rattle.tables.specs.declared.Record.{Record}
@@ -82,12 +82,12 @@ pub record SoundOpening (t : List ℕ) (i : ℕ) (o : Opening) : Type 0 where
   pub read : o .place ≢ 0 → o .permit ≡ 0 → SharedRead i o (recordFor t o)
   pub work : o .place ≢ 0 → o .permit ≡ 1 → SharedWork t i o (recordFor t o)
   -- "an opening's name is as a record's or all 63"
-  pub name : (nameb (o .name) ≡ true) ⊎ ((k : ℕ) → k < 12 → getD (o .name) k 0 ≡ 63)
+  pub name : (nameb (o .name) ≡ true) ⊎ ((k : ℕ) → k < nameSymbols → getD (o .name) k 0 ≡ 63)
   -- "its species, begin, end and number of held segments are as for records"
   pub extent : SoundExtent (o .species) (valueOf o 0) (valueOf o 1)
   -- "the values of pointers 2 to 7, where they exist, are 1 to the greatest end value": the work pointer always exists
   pub workPointer : 1 ≤ valueOf o 2
-  pub pointers : (p : ℕ) → 2 ≤ p → p < 8 → valueOf o p ≤ greatestEnd
+  pub pointers : (p : ℕ) → 2 ≤ p → p < allPointers → valueOf o p ≤ greatestEnd
   -- "all places and segment numbers are in range"
   pub place : o .place ≤ places
   pub list : SoundList (segmentsIn t) (heldOf (o .species) (valueOf o 0) (valueOf o 1)) (o .segments)
@@ -107,18 +107,18 @@ module _ (t : List ℕ) (i : ℕ) (o : Opening) (ok : openb t i o ≡ true) wher
   unfolding openb linkb
   links = each-of _ ok .1 .1 .0
 
-  titled : (nameb (o .name) ≡ true) ⊎ ((k : ℕ) → k < 12 → getD (o .name) k 0 ≡ 63)
+  titled : (nameb (o .name) ≡ true) ⊎ ((k : ℕ) → k < nameSymbols → getD (o .name) k 0 ≡ 63)
   unfolding openb openingNameb
   titled =
-      ⊎-elim (λ e. inl e) (λ e. inr (λ k l. eqb-true (getD (o .name) k 0) 63 (all-at _ 12 e k l)))
-      (either (nameb (o .name)) (allBelow 12 (λ k. eqb (getD (o .name) k 0) 63)) (each-of _ ok .1 .1 .1 .1 .0))
+      ⊎-elim (λ e. inl e) (λ e. inr (λ k l. eqb-true (getD (o .name) k 0) 63 (all-at _ nameSymbols e k l)))
+      (either (nameb (o .name)) (allBelow nameSymbols (λ k. eqb (getD (o .name) k 0) 63)) (each-of _ ok .1 .1 .1 .1 .0))
 
-  pointed : (p : ℕ) → 2 ≤ p → p < 8 → valueOf o p ≤ greatestEnd
+  pointed : (p : ℕ) → 2 ≤ p → p < allPointers → valueOf o p ≤ greatestEnd
   unfolding openb pointersb
   pointed p l h =
       let e : 2 + (p - 2) ≡ p = omega arith in
       subst (λ (q : ℕ). valueOf o q ≤ greatestEnd) e
-      (leb-true (valueOf o (2 + (p - 2))) greatestEnd (all-at _ 6 (each-of _ (each-of _ ok .1 .1 .1 .1 .1 .1 .0) .1 .0) (p - 2) (omega arith)))
+      (leb-true (valueOf o (2 + (p - 2))) greatestEnd (all-at _ (allPointers - 2) (each-of _ (each-of _ ok .1 .1 .1 .1 .1 .1 .0) .1 .0) (p - 2) (omega arith)))
 
   pub openb-facts : SoundOpening t i o
   unfolding openb pointersb
