@@ -1,9 +1,9 @@
--- `openings::elsewhere` meets its contract. Assumes nothing.
+-- `sound_links::elsewhere` meets its contract. Assumes nothing.
 use denote.Ref.{now}
 use borrow.Author.Needs.{needs}
-use Rattle.sound_openings.proofs.Links.{own-entry, other-entry}
-use Rattle.sound_openings.proofs.elsewhere.Statement.{statement}
-use Rattle.sound_openings.proofs.elsewhere.Tie as tie
+use Rattle.sound_links.proofs.Links.{own-entry, other-entry}
+use Rattle.sound_links.proofs.elsewhere.Statement.{statement}
+use Rattle.sound_links.proofs.elsewhere.Tie as tie
 
 returns : tie.Need-returns
 returns c = own-entry _ _ _ _ (c .if1 .taken)

@@ -1,12 +1,12 @@
--- `openings::work_sound` meets its contract. Assumes nothing.
+-- `sound_links::work_sound` meets its contract. Assumes nothing.
 use native.Mathlib.Omega.{arith}
 use borrow.Author.Needs.{needs}
 use borrow.Author.Tests.{eq-eqb, ne-eqb}
 use Rattle.combine.specs.laws.Rows.{one-bad, all-last}
 use Rattle.tables.specs.Layout.{recordOf, openingOf}
 use Rattle.tables.specs.Openings.{workb}
-use Rattle.sound_openings.proofs.work_sound.Statement.{statement}
-use Rattle.sound_openings.proofs.work_sound.Tie as tie
+use Rattle.sound_links.proofs.work_sound.Statement.{statement}
+use Rattle.sound_links.proofs.work_sound.Tie as tie
 
 shared-slice-read-if1 : tie.Need-shared-slice-read-if1
 shared-slice-read-if1 c = search needs

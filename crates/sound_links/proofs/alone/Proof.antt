@@ -1,4 +1,4 @@
--- `openings::alone` meets its contract: all entries before `other` passed the test. Assumes nothing.
+-- `sound_links::alone` meets its contract: all entries before `other` passed the test. Assumes nothing.
 use Prim.Native.Nat.{_-_, _≤_}
 use mathlib.Core.Path.{_≡_}
 use mathlib.Core.Bool.{true}
@@ -6,9 +6,9 @@ use native.Mathlib.Omega.{arith}
 use Rattle.combine.specs.Below.{allBelow}
 use Rattle.combine.specs.laws.Below.{all-zero, all-more, loop-true, loop-false, was-true, was-false}
 use Rattle.placing.specs.Sizes.{entries}
-use Rattle.sound_openings.specs.Opened.{elsewhereb}
-use Rattle.sound_openings.proofs.alone.Statement.{statement}
-use Rattle.sound_openings.proofs.alone.Tie as tie
+use Rattle.sound_links.specs.Linked.{elsewhereb}
+use Rattle.sound_links.proofs.alone.Statement.{statement}
+use Rattle.sound_links.proofs.alone.Tie as tie
 
 abbrev Inv-loop : tie.InvT-loop
 Inv-loop tables entry place other₀ other = (other ≤ entries) × (allBelow other (elsewhereb tables entry place) ≡ true)

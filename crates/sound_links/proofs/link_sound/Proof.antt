@@ -1,13 +1,13 @@
--- `openings::link_sound` meets its contract. Assumes nothing.
+-- `sound_links::link_sound` meets its contract. Assumes nothing.
 use Prim.Native.Nat.{_-_}
 use mathlib.Core.Path.{_∙_}
 use denote.Ref.{now}
 use borrow.Author.Needs.{needs}
 use lib.ListN.{getD}
 use Rattle.tables.specs.Layout.{recordOf, openingOf}
-use Rattle.sound_openings.proofs.Links.{filed-row, no-record, no-place, no-such-record, read-link, work-link}
-use Rattle.sound_openings.proofs.link_sound.Statement.{statement}
-use Rattle.sound_openings.proofs.link_sound.Tie as tie
+use Rattle.sound_links.proofs.Links.{filed-row, no-record, no-place, no-such-record, read-link, work-link}
+use Rattle.sound_links.proofs.link_sound.Statement.{statement}
+use Rattle.sound_links.proofs.link_sound.Tie as tie
 
 shared-slice-read-place : tie.Need-shared-slice-read-place
 shared-slice-read-place c = search needs
