@@ -100,7 +100,7 @@ fn end(tables: &mut [u32], at: usize) -> Answer
     ensures { λ r. ⌜ outcomeOf (said r) (now (tables .exit)) ≡ outcomeOf (done 0) (putOpening (now (tables .entry)) at closedOpening) ⌝ }
 {
     let closed = closed_opening();
-    tables_values::openings::put_opening(tables, at, closed);
+    tables_openings::put_opening(tables, at, closed);
     Answer::Done(0)
 }
 
@@ -114,12 +114,12 @@ fn carry(tables: &mut [u32], at: usize, user: u32, opening: Opening, plan: Plan)
         Plan::Ends => end(tables, at),
         Plan::Unfiles(place) => {
             let filed = unused_record();
-            tables_values::records::put_record(tables, place, filed);
+            tables_records::put_record(tables, place, filed);
             end(tables, at)
         }
         Plan::Files(place, public) => {
             let filed = filed_record(opening, user, public);
-            tables_values::records::put_record(tables, place, filed);
+            tables_records::put_record(tables, place, filed);
             end(tables, at)
         }
     }
@@ -144,7 +144,7 @@ fn leave(store: &[u32], tables: &mut [u32], user: u32, entry: u32, how: Leaving)
     match gate {
         Gate::No(why) => Answer::Refused(why),
         Gate::At(at) => {
-            let opening = tables_values::openings::load_opening(tables, at);
+            let opening = tables_openings::load_opening(tables, at);
             let plan = decide(tables, user, opening, how);
             carry(tables, at, user, opening, plan)
         }

@@ -141,7 +141,7 @@ fn deliver(
     ensures { λ r. ⌜ outcome r (now (store .entry)) (now (tables .exit)) ≡ delivered (now (store .entry)) (now (tables .entry)) entry species after segment position ⌝ }
 {
     let element = store::take_element(store, species, segment, position);
-    tables_values::openings::put_opening(tables, entry, after);
+    tables_openings::put_opening(tables, entry, after);
     Answer::Done(element)
 }
 
@@ -209,7 +209,7 @@ pub fn next(store: &[u32], tables: &mut [u32], user: u32, entry: u32, pointer: u
     match reached {
         Gate::No(why) => Answer::Refused(why),
         Gate::At(at) => {
-            let opening = tables_values::openings::load_opening(tables, at);
+            let opening = tables_openings::load_opening(tables, at);
             let reading = forward(opening, pointer);
             deliver_next(store, tables, at, opening, pointer, reading)
         }
@@ -224,7 +224,7 @@ pub fn prev(store: &[u32], tables: &mut [u32], user: u32, entry: u32, pointer: u
     match reached {
         Gate::No(why) => Answer::Refused(why),
         Gate::At(at) => {
-            let opening = tables_values::openings::load_opening(tables, at);
+            let opening = tables_openings::load_opening(tables, at);
             let reading = backward(opening, pointer);
             deliver_prev(store, tables, at, opening, pointer, reading)
         }

@@ -71,7 +71,7 @@ pub fn open_new(store: &[u32], tables: &mut [u32], user: u32, entry: u32, specie
                 return Answer::Refused(Refusal::Species);
             }
             let opening = new_opening(species);
-            tables_values::openings::put_opening(tables, at, opening);
+            tables_openings::put_opening(tables, at, opening);
             Answer::Done(0)
         }
     }
@@ -112,9 +112,9 @@ fn open_record(tables: &mut [u32], at: usize, place: usize, work: bool)
     requires { ⌜ (length (now tables) ≡ tablesLength) × (at < entries) × (place < places) ⌝ }
     ensures { λ _. ⌜ now (tables .exit) ≡ putOpening (now (tables .entry)) at (oldOpening work place (recordAt (now (tables .entry)) place)) ⌝ }
 {
-    let filed = tables_values::records::load_record(tables, place);
+    let filed = tables_records::load_record(tables, place);
     let opening = old_opening(filed, place as u32, work);
-    tables_values::openings::put_opening(tables, at, opening);
+    tables_openings::put_opening(tables, at, opening);
 }
 
 // "Work and read open a permanent file by name."

@@ -26,7 +26,7 @@ fn finish(tables: &mut [u32], at: usize, told: Answered) -> Answer
         Answer::Refused(why) => Answer::Refused(why),
         Answer::Done(number) => {
             let opening = told.opening;
-            tables_values::openings::put_opening(tables, at, opening);
+            tables_openings::put_opening(tables, at, opening);
             Answer::Done(number)
         }
     }
@@ -40,7 +40,7 @@ pub fn new_pointer(store: &[u32], tables: &mut [u32], user: u32, entry: u32, poi
     match reached {
         Gate::No(why) => Answer::Refused(why),
         Gate::At(at) => {
-            let opening = tables_values::openings::load_opening(tables, at);
+            let opening = tables_openings::load_opening(tables, at);
             let told = opening.new_pointer(pointer);
             finish(tables, at, told)
         }
@@ -61,7 +61,7 @@ pub fn delete_pointer(
     match reached {
         Gate::No(why) => Answer::Refused(why),
         Gate::At(at) => {
-            let opening = tables_values::openings::load_opening(tables, at);
+            let opening = tables_openings::load_opening(tables, at);
             let told = opening.delete_pointer(pointer);
             finish(tables, at, told)
         }
@@ -76,8 +76,8 @@ pub fn reset(store: &[u32], tables: &mut [u32], user: u32, entry: u32) -> Answer
     match reached {
         Gate::No(why) => Answer::Refused(why),
         Gate::At(at) => {
-            let opening = tables_values::openings::load_opening(tables, at);
-            tables_values::openings::put_opening(tables, at, opening.reset());
+            let opening = tables_openings::load_opening(tables, at);
+            tables_openings::put_opening(tables, at, opening.reset());
             Answer::Done(0)
         }
     }

@@ -14,12 +14,12 @@ pub fn rename(store: &[u32], tables: &mut [u32], user: u32, entry: u32, name: &[
     match gate {
         Gate::No(why) => Answer::Refused(why),
         Gate::At(at) => {
-            let opening = tables_values::openings::load_opening(tables, at);
+            let opening = tables_openings::load_opening(tables, at);
             let symbols = names::name_of(name);
             let told = opening.rename(symbols);
             let answer = told.answer;
             let renamed = told.opening;
-            tables_values::openings::put_opening(tables, at, renamed);
+            tables_openings::put_opening(tables, at, renamed);
             answer
         }
     }

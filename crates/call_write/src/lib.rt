@@ -33,7 +33,7 @@ fn settle(
     let value = opening.value(pointer);
     store::put_element(store, opening.species, segment, Position::of(value), number);
     let after = opening.step(pointer, Position::of(value + 1));
-    tables_values::openings::put_opening(tables, entry, after);
+    tables_openings::put_opening(tables, entry, after);
     Answer::Done(0)
 }
 
@@ -54,7 +54,7 @@ fn carry(
         // "Through 0: the first element is dropped, no segment is taken and no store cell changes."
         Plan::Drop => {
             let after = opening_steps::first_left(opening);
-            tables_values::openings::put_opening(tables, entry, after);
+            tables_openings::put_opening(tables, entry, after);
             Answer::Done(0)
         }
         Plan::Put(own) => settle(store, tables, entry, opening, pointer, own, number),
@@ -86,7 +86,7 @@ pub fn write(
     match reached {
         Gate::No(why) => Answer::Refused(why),
         Gate::At(at) => {
-            let opening = tables_values::openings::load_opening(tables, at);
+            let opening = tables_openings::load_opening(tables, at);
             let plan = write_plan::decide(tables, opening, pointer);
             carry(store, tables, at, opening, pointer, number, plan)
         }

@@ -1,4 +1,3 @@
--- What the code of `openings` is. Assumes nothing.
+-- What the code of `sound_openings` is. Assumes nothing.
 pub mod Titles
-pub mod Links
 pub mod Entries

@@ -1,4 +1,3 @@
--- The cells of an opening and of its record as their fields, and the code's order of the tests. Assumes nothing.
-pub mod Cells
+-- A closed entry's cells, and the code's order of the tests. Assumes nothing.
 pub mod Closed
 pub mod Opened

@@ -2,28 +2,20 @@
 -- Assumes nothing.
 use Prim.Native.Nat.{ℕ}
 use mathlib.Core.Path.{_≡_, sym}
-use mathlib.Core.Bool.{Bool, not, _||_}
+use mathlib.Core.Bool.{Bool}
 use mathlib.Core.List.{List, [], _∷_}
-use lib.Dec.{eqb, leb}
+use lib.Dec.{leb}
 use Rattle.combine.specs.laws.Below.{bool-ext}
 use Rattle.combine.specs.Rows.{allOf}
 use Rattle.combine.specs.laws.Rows.{all-good, each-of}
-use Rattle.placing.specs.Sizes.{places}
 use Rattle.placing.specs.Placing.{heldOf}
 use Rattle.tables.specs.declared.Opening.{Opening}
-use Rattle.tables.specs.Layout.{segmentsIn, openingAt}
+use Rattle.tables.specs.Layout.{segmentsIn}
 use Rattle.tables.specs.Fields.{isOpen, valueOf}
 use Rattle.tables.specs.Records.{extentb, listb}
-use Rattle.tables.specs.Openings.{linkb, besideRecordb, pointersb, openb}
+use Rattle.tables.specs.Openings.{pointersb, openb}
 use Rattle.names.specs.Names.{openingNameb}
-
--- entry j is i, or its opening has not the record at place p
-abbrev pub elsewhereb : List ℕ → ℕ → ℕ → ℕ → Bool
-elsewhereb t i p j = eqb j i || not (eqb (openingAt t j .place) p)
-
--- what an opening says of its record
-unfoldable pub linkedb : List ℕ → ℕ → Opening → Bool
-linkedb t i o = allOf (leb (o .place) places ∷ linkb t o ∷ besideRecordb t i o ∷ [])
+use Rattle.sound_links.specs.Linked.{linkedb}
 
 -- its extent, and the list of the segments that it holds; n is the number of segments
 unfoldable pub contentb : ℕ → Opening → Bool

@@ -50,7 +50,7 @@ fn shares(tables: &[u32], opening: Opening, segment: Segment) -> bool
         return false;
     }
     let place = (opening.place - 1) as usize;
-    let filed = tables_values::records::load_record(tables, place);
+    let filed = tables_records::load_record(tables, place);
     let held = placing::held(filed.species, filed.begin, filed.end);
     let list = filed.segments;
     lists(list, held, segment)

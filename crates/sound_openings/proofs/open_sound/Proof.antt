@@ -1,4 +1,4 @@
--- `openings::open_sound` meets its contract: its tests are those of `openedb`. Assumes nothing.
+-- `sound_openings::open_sound` meets its contract: its tests are those of `openedb`. Assumes nothing.
 use mathlib.Core.Path.{_∙_}
 use denote.Ref.{now}
 use borrow.Author.Needs.{needs}

@@ -1,4 +1,4 @@
--- `openings::openings_sound` meets its contract: all entries before `entry` passed the test. Assumes nothing.
+-- `sound_openings::openings_sound` meets its contract: all entries before `entry` passed the test. Assumes nothing.
 use Prim.Native.Nat.{_-_, _≤_}
 use mathlib.Core.Path.{_≡_}
 use mathlib.Core.Bool.{true}

@@ -1,4 +1,4 @@
--- `openings::title_sound` meets its contract. Assumes nothing.
+-- `sound_openings::title_sound` meets its contract. Assumes nothing.
 use mathlib.Core.Path.{sym, _∙_}
 use denote.Ref.{now}
 use borrow.Author.Needs.{needs}

@@ -1,0 +1,3 @@
+-- What the code of `sound_links` is. Assumes nothing.
+pub mod Choices
+pub mod Links

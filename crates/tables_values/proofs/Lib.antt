@@ -1,4 +1,0 @@
--- The laws that the proofs of the code cite. Assumes nothing.
-pub mod Turns
-pub mod Parts
-pub mod Loaded
