@@ -1,31 +1,28 @@
--- An outcome as a caller in C or Rust is handed it: the answer is one number. Assumes nothing.
-use Prim.Native.Nat.{ℕ, _+_}
-use mathlib.Core.Path.{_≡_, ap, _∙_}
-use Rattle.answers.specs.declared.Answer.{Answer}
-use Rattle.answers.specs.Said.{said}
+-- An answer as a caller in C or Rust is handed it: one number. Assumes nothing.
+use Prim.Native.Nat.{ℕ, _+_, _-_, _<_}
+use mathlib.Core.Bool.{cond}
+use lib.Dec.{ltb}
 use Rattle.combine.specs.Verdict.{Said, done, refused}
 use Rattle.combine.specs.Outcome.{Outcome, outcomeOf}
 
--- done is its number, refused is 2^32 and the refusal's number: a done number is a cell's, and so below 2^32
-abbrev pub packed : Said → ℕ
+-- 2^32: a done number is a cell's, and so below it
+abbrev pub firstRefused : ℕ
+firstRefused = 4294967296
+
+-- the number of an answer: done is its number, refused is 2^32 and the refusal's number
+abbrev pub packed : (answer : Said) → ℕ
 packed (done n) = n
-packed (refused n) = 4294967296 + n
+packed (refused n) = firstRefused + n
 
--- the number, and all of the state afterwards
-pub record Handed (S : Type 0) : Type 0 where
-  pub number : ℕ
-  pub after : S
+-- an answer that a number can be: a done number is below 2^32
+abbrev pub Packs : (answer : Said) → Type 0
+Packs (done n) = n < firstRefused
+Packs (refused n) = Unit {0}
 
-module _ {S : Type 0} where
-  unfoldable pub handed : ℕ → S → Handed S
-  handed n x = record { number = n; after = x }
+-- the answer that a number is
+unfoldable pub unpacked : (number : ℕ) → Said
+unpacked m = cond (ltb m firstRefused) (done m) (refused (m - firstRefused))
 
-  -- what an outcome is to the caller
-  unfoldable pub handing : Outcome S → Handed S
-  handing o = handed (packed (o .answer)) (o .after)
-
-  pub hand : (a : Answer) (x : S) (o : Outcome S) (n : ℕ) → n ≡ packed (said a) → outcomeOf (said a) x ≡ o → handed n x ≡ handing o
-  unfolding handing
-  hand a x o n p q = ap (λ m. handed m x) p ∙ ap handing q
-
-pub ruleset hands = (hand)
+-- the outcome that a caller is handed: the number, and all of the state afterwards
+unfoldable pub handed : {S : Type 0} → (number : ℕ) (after : S) → Outcome S
+handed m x = outcomeOf (unpacked m) x

@@ -1,2 +1,4 @@
 -- What a caller in C or Rust is handed. Assumes nothing.
 pub mod Handed
+pub mod Version
+pub mod laws

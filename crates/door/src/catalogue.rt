@@ -5,7 +5,7 @@ ghost use Rattle.rules.specs.Calls as call;
 ghost use Rattle.rules.specs.Calls.{opens, closes, abandons, uses};
 ghost use mathlib.Core.Bool.{true, false};
 ghost use Rattle.cells.specs.Outcomes.{lent, requestOut};
-ghost use Rattle.door.specs.Handed.{handed, handing};
+ghost use Rattle.door.specs.Handed.{handed};
 
 #[no_mangle]
 pub extern "C" fn dorrivand_new(
@@ -15,7 +15,7 @@ pub extern "C" fn dorrivand_new(
     entry: u32,
     species: u32,
 ) -> u64
-    ensures { λ r. ⌜ handed r (lent (now (store .entry)) (now (tables .exit))) ≡ handing (requestOut (opens (call.new species)) (now (store .entry)) (now (tables .entry)) user entry) ⌝ }
+    ensures { λ r. ⌜ handed r (lent (now (store .entry)) (now (tables .exit))) ≡ requestOut (opens (call.new species)) (now (store .entry)) (now (tables .entry)) user entry ⌝ }
 {
     pack(call_open::open_new(store, tables, user, entry, species))
 }
@@ -28,7 +28,7 @@ pub extern "C" fn dorrivand_work(
     entry: u32,
     name: &[u8],
 ) -> u64
-    ensures { λ r. ⌜ handed r (lent (now (store .entry)) (now (tables .exit))) ≡ handing (requestOut (opens (call.work (now (name .entry)))) (now (store .entry)) (now (tables .entry)) user entry) ⌝ }
+    ensures { λ r. ⌜ handed r (lent (now (store .entry)) (now (tables .exit))) ≡ requestOut (opens (call.work (now (name .entry)))) (now (store .entry)) (now (tables .entry)) user entry ⌝ }
 {
     pack(call_open::open_work(store, tables, user, entry, name))
 }
@@ -41,7 +41,7 @@ pub extern "C" fn dorrivand_read(
     entry: u32,
     name: &[u8],
 ) -> u64
-    ensures { λ r. ⌜ handed r (lent (now (store .entry)) (now (tables .exit))) ≡ handing (requestOut (opens (call.read (now (name .entry)))) (now (store .entry)) (now (tables .entry)) user entry) ⌝ }
+    ensures { λ r. ⌜ handed r (lent (now (store .entry)) (now (tables .exit))) ≡ requestOut (opens (call.read (now (name .entry)))) (now (store .entry)) (now (tables .entry)) user entry ⌝ }
 {
     pack(call_open::open_read(store, tables, user, entry, name))
 }
@@ -54,28 +54,28 @@ pub extern "C" fn dorrivand_rename(
     entry: u32,
     name: &[u8],
 ) -> u64
-    ensures { λ r. ⌜ handed r (lent (now (store .entry)) (now (tables .exit))) ≡ handing (requestOut (uses (call.rename (now (name .entry)))) (now (store .entry)) (now (tables .entry)) user entry) ⌝ }
+    ensures { λ r. ⌜ handed r (lent (now (store .entry)) (now (tables .exit))) ≡ requestOut (uses (call.rename (now (name .entry)))) (now (store .entry)) (now (tables .entry)) user entry ⌝ }
 {
     pack(call_rename::rename(store, tables, user, entry, name))
 }
 
 #[no_mangle]
 pub extern "C" fn dorrivand_close(store: &[u32], tables: &mut [u32], user: u32, entry: u32) -> u64
-    ensures { λ r. ⌜ handed r (lent (now (store .entry)) (now (tables .exit))) ≡ handing (requestOut (closes false) (now (store .entry)) (now (tables .entry)) user entry) ⌝ }
+    ensures { λ r. ⌜ handed r (lent (now (store .entry)) (now (tables .exit))) ≡ requestOut (closes false) (now (store .entry)) (now (tables .entry)) user entry ⌝ }
 {
     pack(call_close::close(store, tables, user, entry, false))
 }
 
 #[no_mangle]
 pub extern "C" fn dorrivand_public(store: &[u32], tables: &mut [u32], user: u32, entry: u32) -> u64
-    ensures { λ r. ⌜ handed r (lent (now (store .entry)) (now (tables .exit))) ≡ handing (requestOut (closes true) (now (store .entry)) (now (tables .entry)) user entry) ⌝ }
+    ensures { λ r. ⌜ handed r (lent (now (store .entry)) (now (tables .exit))) ≡ requestOut (closes true) (now (store .entry)) (now (tables .entry)) user entry ⌝ }
 {
     pack(call_close::close(store, tables, user, entry, true))
 }
 
 #[no_mangle]
 pub extern "C" fn dorrivand_abandon(store: &[u32], tables: &mut [u32], user: u32, entry: u32) -> u64
-    ensures { λ r. ⌜ handed r (lent (now (store .entry)) (now (tables .exit))) ≡ handing (requestOut abandons (now (store .entry)) (now (tables .entry)) user entry) ⌝ }
+    ensures { λ r. ⌜ handed r (lent (now (store .entry)) (now (tables .exit))) ≡ requestOut abandons (now (store .entry)) (now (tables .entry)) user entry ⌝ }
 {
     pack(call_close::abandon(store, tables, user, entry))
 }

@@ -4,11 +4,11 @@ ghost use mathlib.Core.Path.{_≡_};
 ghost use Rattle.rules.specs.Calls as call;
 ghost use Rattle.rules.specs.Calls.{uses};
 ghost use Rattle.cells.specs.Outcomes.{lent, requestOut};
-ghost use Rattle.door.specs.Handed.{handed, handing};
+ghost use Rattle.door.specs.Handed.{handed};
 
 #[no_mangle]
 pub extern "C" fn dorrivand_reset(store: &[u32], tables: &mut [u32], user: u32, entry: u32) -> u64
-    ensures { λ r. ⌜ handed r (lent (now (store .entry)) (now (tables .exit))) ≡ handing (requestOut (uses call.reset) (now (store .entry)) (now (tables .entry)) user entry) ⌝ }
+    ensures { λ r. ⌜ handed r (lent (now (store .entry)) (now (tables .exit))) ≡ requestOut (uses call.reset) (now (store .entry)) (now (tables .entry)) user entry ⌝ }
 {
     pack(call_pointers::reset(store, tables, user, entry))
 }
@@ -21,7 +21,7 @@ pub extern "C" fn dorrivand_pointer(
     entry: u32,
     pointer: u32,
 ) -> u64
-    ensures { λ r. ⌜ handed r (lent (now (store .entry)) (now (tables .exit))) ≡ handing (requestOut (uses (call.newPointer pointer)) (now (store .entry)) (now (tables .entry)) user entry) ⌝ }
+    ensures { λ r. ⌜ handed r (lent (now (store .entry)) (now (tables .exit))) ≡ requestOut (uses (call.newPointer pointer)) (now (store .entry)) (now (tables .entry)) user entry ⌝ }
 {
     pack(call_pointers::new_pointer(store, tables, user, entry, pointer))
 }
@@ -34,7 +34,7 @@ pub extern "C" fn dorrivand_delete(
     entry: u32,
     pointer: u32,
 ) -> u64
-    ensures { λ r. ⌜ handed r (lent (now (store .entry)) (now (tables .exit))) ≡ handing (requestOut (uses (call.deletePointer pointer)) (now (store .entry)) (now (tables .entry)) user entry) ⌝ }
+    ensures { λ r. ⌜ handed r (lent (now (store .entry)) (now (tables .exit))) ≡ requestOut (uses (call.deletePointer pointer)) (now (store .entry)) (now (tables .entry)) user entry ⌝ }
 {
     pack(call_pointers::delete_pointer(store, tables, user, entry, pointer))
 }
@@ -48,7 +48,7 @@ pub extern "C" fn dorrivand_write(
     pointer: u32,
     number: u32,
 ) -> u64
-    ensures { λ r. ⌜ handed r (lent (now (store .exit)) (now (tables .exit))) ≡ handing (requestOut (uses (call.write pointer number)) (now (store .entry)) (now (tables .entry)) user entry) ⌝ }
+    ensures { λ r. ⌜ handed r (lent (now (store .exit)) (now (tables .exit))) ≡ requestOut (uses (call.write pointer number)) (now (store .entry)) (now (tables .entry)) user entry ⌝ }
 {
     pack(call_write::write(store, tables, user, entry, pointer, number))
 }
@@ -61,7 +61,7 @@ pub extern "C" fn dorrivand_next(
     entry: u32,
     pointer: u32,
 ) -> u64
-    ensures { λ r. ⌜ handed r (lent (now (store .entry)) (now (tables .exit))) ≡ handing (requestOut (uses (call.next pointer)) (now (store .entry)) (now (tables .entry)) user entry) ⌝ }
+    ensures { λ r. ⌜ handed r (lent (now (store .entry)) (now (tables .exit))) ≡ requestOut (uses (call.next pointer)) (now (store .entry)) (now (tables .entry)) user entry ⌝ }
 {
     pack(call_next_prev::next(store, tables, user, entry, pointer))
 }
@@ -74,7 +74,7 @@ pub extern "C" fn dorrivand_prev(
     entry: u32,
     pointer: u32,
 ) -> u64
-    ensures { λ r. ⌜ handed r (lent (now (store .entry)) (now (tables .exit))) ≡ handing (requestOut (uses (call.prev pointer)) (now (store .entry)) (now (tables .entry)) user entry) ⌝ }
+    ensures { λ r. ⌜ handed r (lent (now (store .entry)) (now (tables .exit))) ≡ requestOut (uses (call.prev pointer)) (now (store .entry)) (now (tables .entry)) user entry ⌝ }
 {
     pack(call_next_prev::prev(store, tables, user, entry, pointer))
 }

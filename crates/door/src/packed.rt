@@ -2,10 +2,10 @@
 use answers::Answer;
 ghost use mathlib.Core.Path.{_≡_};
 ghost use Rattle.answers.specs.Said.{said};
-ghost use Rattle.door.specs.Handed.{packed};
+ghost use Rattle.door.specs.Handed.{unpacked};
 
 pub fn pack(answer: Answer) -> u64
-    ensures { λ r. ⌜ r ≡ packed (said answer) ⌝ }
+    ensures { λ r. ⌜ unpacked r ≡ said answer ⌝ }
 {
     match answer {
         Answer::Done(n) => n as u64,

@@ -1,8 +1,10 @@
-use mathlib.Core.Path.{ap, sym, _∙_}
+-- `door::packed::pack` meets its contract. Assumes nothing.
 use Prim.Native.Nat.{ℕ, _+_}
-use Rattle.answers.specs.declared.Answer.{Answer}
+use mathlib.Core.Path.{ap, sym, _∙_}
+use native.Mathlib.Omega.{arith}
 use Rattle.answers.specs.Said.{said}
-use Rattle.door.specs.Handed.{packed}
+use Rattle.door.specs.Handed.{firstRefused, unpacked}
+use Rattle.door.specs.laws.Handed.{unpacked-done, unpacked-refused}
 use borrow.Author.Needs.{needs}
 use Rattle.door.proofs.packed.pack.Statement.{statement}
 use Rattle.door.proofs.packed.pack.Tie as tie
@@ -26,10 +28,11 @@ add-result : tie.Need-add-result
 add-result c = search needs
 
 returns : tie.Need-returns
-returns c = search needs
+returns c = unpacked-done _ (omega arith) ∙ ap said (sym (c .before .answer .given .1))
 
 returns-2 : tie.Need-returns-2
-returns-2 c = ap (λ (n : ℕ). 4294967296 + n) (c .number .ensures) ∙ ap (λ (a : Answer). packed (said a)) (sym (c .before .before .answer2 .given .1))
+returns-2 c =
+    ap (λ (n : ℕ). unpacked (firstRefused + n)) (c .number .ensures) ∙ unpacked-refused _ ∙ ap said (sym (c .before .before .answer2 .given .1))
 
 pub pack-spec : {M : Type 1} → statement M
 pack-spec =
