@@ -1,4 +1,4 @@
-//! A landlord's day. It prints every answer; landlords_day.expected has them all.
+//! A landlord's day. It prints every answer; examples/landlords_day.expected of the repository has them all.
 
 use dorrivand::{pointer, Refusal, Species, Store};
 
@@ -10,7 +10,7 @@ fn part(words: &str) {
 fn did(call: &str, answer: Result<(), Refusal>) {
     match answer {
         Ok(()) => println!("    {call:<30}done"),
-        Err(refusal) => println!("    {call:<30}refused {}", refusal.number()),
+        Err(refusal) => println!("    {call:<30}refused: {refusal}"),
     }
 }
 
@@ -18,7 +18,7 @@ fn did(call: &str, answer: Result<(), Refusal>) {
 fn got(call: &str, answer: Result<u32, Refusal>) {
     match answer {
         Ok(number) => println!("    {call:<30}{number}"),
-        Err(refusal) => println!("    {call:<30}refused {}", refusal.number()),
+        Err(refusal) => println!("    {call:<30}refused: {refusal}"),
     }
 }
 
