@@ -150,6 +150,21 @@ fn the_refusals_have_one_number_and_one_text() {
         .iter()
         .map(|refusal| format!("case {}: return \"{refusal}\";", name_in_c(&format!("{refusal:?}"))));
     assert_eq!(cases, wanted.collect::<Vec<_>>());
+
+    let histories = text_of(&repository().join("histories/README.md"));
+    for refusal in Refusal::ALL {
+        let row = format!("| {} | {refusal} |", refusal.number());
+        assert!(histories.contains(&row), "histories/README.md has no {row}");
+    }
+}
+
+#[test]
+fn each_call_has_its_line_in_the_readme_of_histories() {
+    let histories = text_of(&repository().join("histories/README.md"));
+    for call in compare::line::CALLS {
+        let line = histories.split('`').any(|code| code == call || code.starts_with(&format!("{call} ")));
+        assert!(line, "histories/README.md has no {call}");
+    }
 }
 
 #[test]
