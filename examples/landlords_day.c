@@ -17,7 +17,9 @@ static uint32_t *tables;
 
 static void part(const char *words) { printf("\n%s\n", words); }
 
-static void refused(const char *call, uint64_t answer) { printf("    %-30srefused %u\n", call, (unsigned)dorrivand_number(answer)); }
+static void refused(const char *call, uint64_t answer) {
+    printf("    %-30srefused: %s\n", call, dorrivand_words(dorrivand_refused(answer)));
+}
 
 /* The answer of a call that gives no number. */
 static void did(const char *call, uint64_t answer) {
@@ -48,7 +50,7 @@ static void read_all(uint32_t user, const char *name) {
     uint64_t answer;
     open_for("reading", name, dorrivand_read(LENT, user, 1, NAMED(name)));
     do {
-        answer = dorrivand_next(LENT, user, 1, 2);
+        answer = dorrivand_next(LENT, user, 1, DORRIVAND_WORK);
         got("next", answer);
     } while (dorrivand_is_done(answer));
     did("close private", dorrivand_close(LENT, user, 1));
@@ -56,17 +58,17 @@ static void read_all(uint32_t user, const char *name) {
 
 static void make_two_files(void) {
     part("Landlord 2 makes a file of fault records for lift 7: numbers of 16 bits, private.");
-    did("open new", dorrivand_new(LENT, 2, 0, 4));
-    did("append 301", dorrivand_write(LENT, 2, 0, 1, 301));
-    did("append 417", dorrivand_write(LENT, 2, 0, 1, 417));
-    did("append 208", dorrivand_write(LENT, 2, 0, 1, 208));
+    did("open new", dorrivand_new(LENT, 2, 0, DORRIVAND_BITS_16));
+    did("append 301", dorrivand_write(LENT, 2, 0, DORRIVAND_END, 301));
+    did("append 417", dorrivand_write(LENT, 2, 0, DORRIVAND_END, 417));
+    did("append 208", dorrivand_write(LENT, 2, 0, DORRIVAND_END, 208));
     did("rename to \"lift 7\"", dorrivand_rename(LENT, 2, 0, NAMED("lift 7")));
     did("close private", dorrivand_close(LENT, 2, 0));
 
     part("Landlord 5 makes one for door 1: numbers of 8 bits, public. 300 is too wide and loses its top bits.");
-    did("open new", dorrivand_new(LENT, 5, 0, 3));
-    did("append 12", dorrivand_write(LENT, 5, 0, 1, 12));
-    did("append 300", dorrivand_write(LENT, 5, 0, 1, 300));
+    did("open new", dorrivand_new(LENT, 5, 0, DORRIVAND_BITS_8));
+    did("append 12", dorrivand_write(LENT, 5, 0, DORRIVAND_END, 12));
+    did("append 300", dorrivand_write(LENT, 5, 0, DORRIVAND_END, 300));
     did("rename to \"door 1\"", dorrivand_rename(LENT, 5, 0, NAMED("door 1")));
     did("close public", dorrivand_public(LENT, 5, 0));
     got("free segments", dorrivand_free(LENT, 5));
@@ -86,9 +88,9 @@ static void read_and_be_refused(void) {
 static void edit(void) {
     part("Landlord 2 edits lift 7 and abandons the edit: nothing of it is left.");
     open_for("work", "lift 7", dorrivand_work(LENT, 2, 0, NAMED("lift 7")));
-    did("replace the first by 999", dorrivand_write(LENT, 2, 0, 2, 999));
-    got("take the last away", dorrivand_prev(LENT, 2, 0, 1));
-    did("append 111", dorrivand_write(LENT, 2, 0, 1, 111));
+    did("replace the first by 999", dorrivand_write(LENT, 2, 0, DORRIVAND_WORK, 999));
+    got("take the last away", dorrivand_prev(LENT, 2, 0, DORRIVAND_END));
+    did("append 111", dorrivand_write(LENT, 2, 0, DORRIVAND_END, 111));
     got("free segments", dorrivand_free(LENT, 2));
     did("abandon", dorrivand_abandon(LENT, 2, 0));
     got("free segments", dorrivand_free(LENT, 2));
@@ -96,8 +98,8 @@ static void edit(void) {
 
     part("Fault 301 is mended, and a new one comes in. This edit is closed.");
     open_for("work", "lift 7", dorrivand_work(LENT, 2, 0, NAMED("lift 7")));
-    got("take the first away", dorrivand_next(LENT, 2, 0, 0));
-    did("append 522", dorrivand_write(LENT, 2, 0, 1, 522));
+    got("take the first away", dorrivand_next(LENT, 2, 0, DORRIVAND_BEGIN));
+    did("append 522", dorrivand_write(LENT, 2, 0, DORRIVAND_END, 522));
     got("begin", dorrivand_begin(LENT, 2, 0));
     got("end", dorrivand_end(LENT, 2, 0));
     did("close private", dorrivand_close(LENT, 2, 0));

@@ -1,7 +1,10 @@
 /*
  * Dorrivand: a file module for eight landlords who keep their lifts' fault records in one block store.
  *
- * The caller keeps the store and the tables, two rows of 32-bit cells, and lends them to each call. Link libdoor.a.
+ * The caller keeps the store and the tables, two rows of 32-bit cells, and lends them to each call. `rt staticlib door`
+ * writes the library, and a program is built by
+ *
+ *     gcc program.c -Iinclude target/staticlib/libdoor.a
  *
  * What the caller must see to:
  *   - A slice is a pointer and a number of elements: the pointer points to as many elements as the number says. Where
@@ -10,18 +13,25 @@
  * Nothing else. Numbers may be any numbers, slices of any length, cells and names of any contents: every call ends and
  * answers, and a refusal leaves store, tables and image as they stood. A call writes only where its slice is not const.
  *
- * The answer is one number of 64 bits: done with n is n, refused for n is 2^32 + n. Where a call's words below name no
- * number, done is 0. The refusals of a call are listed in the order in which they are judged: the first that applies
- * is the answer.
+ * Where a call's words below name no number, done is 0. The refusals of a call are listed in the order in which they are
+ * judged: the first that applies is the answer.
  *
- *   users 0 to 7, each with entries 0 to 3         species 0 to 5: elements of 1, 2, 4, 8, 16 and 32 bits
- *   pointers: 0 the begin, 1 the end, 2 the work pointer, 3 to 7 own pointers
- *   names: space, tab and newline are skipped; 0 to 9 and a to z are symbols 0 to 35; any other byte ends the name;
- *   what follows the twelfth symbol is ignored. The empty name is the scratch name.
+ * Users are 0 to 7, each with entries 0 to 3; pointers 3 to 7 are a file's own.
+ *
+ * Names: space, tab and newline are skipped; 0 to 9 and a to z are symbols 0 to 35; any other byte ends the name; what
+ * follows the twelfth symbol is ignored. The empty name is the scratch name, and no call refuses a name for its bytes. So:
+ *   - "Lift 7" is the scratch name, for a capital letter ends a name: a new file renamed to it is gone at its close, and
+ *     so is an old one.
+ *   - "lift-7" is kept as "lift".
+ *   - "building 12 lift 1" and "building 12 lift 2" are one name, "building12li".
+ * dorrivand_name_of tells beforehand what will be kept.
+ *
+ * docs/OPERATING.md: what to keep on disk, and how. docs/CHANGES.md: what is new in each version.
  */
 #ifndef DORRIVAND_H
 #define DORRIVAND_H
 
+#include "dorrivand_answers.h"
 #include <stddef.h>
 #include <stdint.h>
 
@@ -29,44 +39,34 @@
 extern "C" {
 #endif
 
-/* Why a call is refused. */
-enum dorrivand_refusal {
-    DORRIVAND_NO_SUCH_USER = 1,         /* user above 7 */
-    DORRIVAND_ENTRY_NOT_OPEN = 2,       /* entry above 3, or not open where it must be */
-    DORRIVAND_ENTRY_OPEN = 3,           /* entry open at an opening */
-    DORRIVAND_NOT_A_POINTER = 4,        /* not a pointer of the file, or a standard one to delete */
-    DORRIVAND_NO_WORK_PERMIT = 5,       /* no work permit */
-    DORRIVAND_BELOW_BEGIN = 6,          /* below the begin */
-    DORRIVAND_BEYOND_END = 7,           /* beyond the end */
-    DORRIVAND_TOO_MANY_SEGMENTS = 8,    /* a 33rd segment needed */
-    DORRIVAND_NO_ROOM = 9,              /* no room: a segment needed, none free */
-    DORRIVAND_POSITIONS_USED_UP = 10,   /* positions used up */
-    DORRIVAND_UNKNOWN_NAME = 11,        /* unknown name */
-    DORRIVAND_NOT_YOURS = 12,           /* not yours */
-    DORRIVAND_NO_WORK_ON_ANOTHERS = 13, /* no work on another's file */
-    DORRIVAND_NOT_NOW = 14,             /* not now */
-    DORRIVAND_EMPTY_NAME = 15,          /* old file asked for by the empty name */
-    DORRIVAND_NAME_TAKEN = 16,          /* name taken by another record */
-    DORRIVAND_NO_FREE_PLACE = 17,       /* new file, no free place */
-    DORRIVAND_NOT_TO_BE_PUBLIC = 18,    /* read or scratch closed as public */
-    DORRIVAND_NO_SUCH_SPECIES = 19,     /* species above 5 */
-    DORRIVAND_UNSOUND_TABLES = 20,      /* tables of wrong length or unsound, or store under 64 cells */
-    DORRIVAND_NO_POINTER_LEFT = 21,     /* no own pointer left */
-    DORRIVAND_UNSOUND_IMAGE = 22        /* image of wrong length, or unsound */
+/* A file's standard pointers. */
+enum dorrivand_pointer { DORRIVAND_BEGIN = 0, DORRIVAND_END = 1, DORRIVAND_WORK = 2 };
+
+/* The species, by the width of a file's elements. */
+enum dorrivand_species {
+    DORRIVAND_BITS_1 = 0,
+    DORRIVAND_BITS_2 = 1,
+    DORRIVAND_BITS_4 = 2,
+    DORRIVAND_BITS_8 = 3,
+    DORRIVAND_BITS_16 = 4,
+    DORRIVAND_BITS_32 = 5
 };
 
-/* Whether the answer is done. */
-static inline int dorrivand_is_done(uint64_t answer) { return answer >> 32 == 0; }
+/* The version that this header belongs to: it grows by 1 with each change that a caller can notice. */
+#define DORRIVAND_VERSION 1
 
-/* The number in the answer: of a done one what was asked for, of a refused one the refusal. */
-static inline uint32_t dorrivand_number(uint64_t answer) { return (uint32_t)(answer & 0xFFFFFFFFu); }
-
-/* The number of the refusal, 0 where the answer is done. */
-static inline uint32_t dorrivand_refused(uint64_t answer) { return dorrivand_is_done(answer) ? 0 : dorrivand_number(answer); }
+/* The version of the library that is linked. */
+uint32_t dorrivand_version(void);
 
 /* The one length of the tables, and of an image, in cells. */
 size_t dorrivand_tables_length(void);
 size_t dorrivand_image_length(void);
+
+/* What name the bytes make. Its twelve symbols, with 63 after the last one, go to the first cells of symbols, as many of them
+ * as there are cells; other cells stay. The answer is how many bytes the name uses: those before the first that ends it or
+ * is a thirteenth symbol. Where that is name_length, nothing is lost but what is skipped; where the first symbol is 63,
+ * it is the scratch name. */
+size_t dorrivand_name_of(const uint8_t *name, size_t name_length, uint32_t *symbols, size_t symbols_length);
 
 /* ---- The operator's calls: they name no user, and none of them changes a store cell. ---- */
 
@@ -75,12 +75,15 @@ size_t dorrivand_image_length(void);
  * Refusals: 20 (the lengths alone). */
 uint64_t dorrivand_fresh(const uint32_t *store, size_t store_length, uint32_t *tables, size_t tables_length);
 
-/* Save: writes the records, whatever is open, to the image.
+/* Save: writes the records, whatever is open, to the image. The elements are not in it, they stay in the store's cells: an
+ * image is a backup only together with the store's cells of the same moment.
  * Refusals: 20; 22 (the image's length alone). */
 uint64_t dorrivand_save(const uint32_t *store, size_t store_length, const uint32_t *tables, size_t tables_length,
                         uint32_t *image, size_t image_length);
 
-/* Load: the image's records and its number of segments, nothing open. What the tables held is not looked at.
+/* Load: the image's records and its number of segments, nothing open. What the tables held is not looked at. The elements
+ * are those that the store's cells hold now. Over cells of another moment the load is done all the same, and a landlord's
+ * file reads what a neighbour has written into its segments since the save.
  * Refusals: 20 (the lengths alone); 22. */
 uint64_t dorrivand_load(const uint32_t *store, size_t store_length, uint32_t *tables, size_t tables_length,
                         const uint32_t *image, size_t image_length);

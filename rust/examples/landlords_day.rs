@@ -1,6 +1,6 @@
-//! A landlord's day. It prints every answer; landlords_day.expected has them all.
+//! A landlord's day. It prints every answer; examples/landlords_day.expected of the repository has them all.
 
-use dorrivand::{Refusal, Store};
+use dorrivand::{pointer, Refusal, Species, Store};
 
 fn part(words: &str) {
     println!("\n{words}");
@@ -10,7 +10,7 @@ fn part(words: &str) {
 fn did(call: &str, answer: Result<(), Refusal>) {
     match answer {
         Ok(()) => println!("    {call:<30}done"),
-        Err(refusal) => println!("    {call:<30}refused {}", refusal.number()),
+        Err(refusal) => println!("    {call:<30}refused: {refusal}"),
     }
 }
 
@@ -18,7 +18,7 @@ fn did(call: &str, answer: Result<(), Refusal>) {
 fn got(call: &str, answer: Result<u32, Refusal>) {
     match answer {
         Ok(number) => println!("    {call:<30}{number}"),
-        Err(refusal) => println!("    {call:<30}refused {}", refusal.number()),
+        Err(refusal) => println!("    {call:<30}refused: {refusal}"),
     }
 }
 
@@ -26,7 +26,7 @@ fn got(call: &str, answer: Result<u32, Refusal>) {
 fn read_all(store: &mut Store, user: u32, name: &str) {
     did(&format!("open for reading \"{name}\""), store.open_read(user, 1, name));
     loop {
-        let answer = store.next(user, 1, 2);
+        let answer = store.next(user, 1, pointer::WORK);
         got("next", answer);
         if answer.is_err() {
             break;
@@ -37,17 +37,17 @@ fn read_all(store: &mut Store, user: u32, name: &str) {
 
 fn make_two_files(store: &mut Store) {
     part("Landlord 2 makes a file of fault records for lift 7: numbers of 16 bits, private.");
-    did("open new", store.open_new(2, 0, 4));
-    did("append 301", store.write(2, 0, 1, 301));
-    did("append 417", store.write(2, 0, 1, 417));
-    did("append 208", store.write(2, 0, 1, 208));
+    did("open new", store.open_new(2, 0, Species::Bits16));
+    did("append 301", store.write(2, 0, pointer::END, 301));
+    did("append 417", store.write(2, 0, pointer::END, 417));
+    did("append 208", store.write(2, 0, pointer::END, 208));
     did("rename to \"lift 7\"", store.rename(2, 0, "lift 7"));
     did("close private", store.close_private(2, 0));
 
     part("Landlord 5 makes one for door 1: numbers of 8 bits, public. 300 is too wide and loses its top bits.");
-    did("open new", store.open_new(5, 0, 3));
-    did("append 12", store.write(5, 0, 1, 12));
-    did("append 300", store.write(5, 0, 1, 300));
+    did("open new", store.open_new(5, 0, Species::Bits8));
+    did("append 12", store.write(5, 0, pointer::END, 12));
+    did("append 300", store.write(5, 0, pointer::END, 300));
     did("rename to \"door 1\"", store.rename(5, 0, "door 1"));
     did("close public", store.close_public(5, 0));
     got("free segments", store.free_segments(5));
@@ -67,9 +67,9 @@ fn read_and_be_refused(store: &mut Store) {
 fn edit(store: &mut Store) {
     part("Landlord 2 edits lift 7 and abandons the edit: nothing of it is left.");
     did("open for work \"lift 7\"", store.open_work(2, 0, "lift 7"));
-    did("replace the first by 999", store.write(2, 0, 2, 999));
-    got("take the last away", store.prev(2, 0, 1));
-    did("append 111", store.write(2, 0, 1, 111));
+    did("replace the first by 999", store.write(2, 0, pointer::WORK, 999));
+    got("take the last away", store.prev(2, 0, pointer::END));
+    did("append 111", store.write(2, 0, pointer::END, 111));
     got("free segments", store.free_segments(2));
     did("abandon", store.abandon(2, 0));
     got("free segments", store.free_segments(2));
@@ -77,8 +77,8 @@ fn edit(store: &mut Store) {
 
     part("Fault 301 is mended, and a new one comes in. This edit is closed.");
     did("open for work \"lift 7\"", store.open_work(2, 0, "lift 7"));
-    got("take the first away", store.next(2, 0, 0));
-    did("append 522", store.write(2, 0, 1, 522));
+    got("take the first away", store.next(2, 0, pointer::BEGIN));
+    did("append 522", store.write(2, 0, pointer::END, 522));
     got("begin", store.begin(2, 0));
     got("end", store.end(2, 0));
     did("close private", store.close_private(2, 0));

@@ -1,19 +1,17 @@
 //! The answer of a call, unpacked.
 
 use crate::refusal::Refusal;
+use crate::species::Species;
 
 pub type Answer = Result<u32, Refusal>;
 
 /// "done n is n, refused n is 2^32 + n".
-///
-/// The library is proved to answer nothing else; another answer means that a library was linked which this crate does
-/// not know, and then no answer can be relied upon.
 pub fn answer(packed: u64) -> Answer {
     let number = (packed & u64::from(u32::MAX)) as u32;
     match (packed >> 32, Refusal::from_number(number)) {
         (0, _) => Ok(number),
         (1, Some(refusal)) => Err(refusal),
-        _ => panic!("the library answered {packed}, which is no answer: is it of another version than this crate?"),
+        _ => unknown(packed, "an answer"),
     }
 }
 
@@ -21,9 +19,7 @@ pub fn answer(packed: u64) -> Answer {
 pub fn without_number(answer: Answer) -> Result<(), Refusal> {
     match answer? {
         0 => Ok(()),
-        number => {
-            panic!("the library answered {number} where there is no number: is it of another version than this crate?")
-        }
+        number => unknown(number, "done without a number"),
     }
 }
 
@@ -32,8 +28,22 @@ pub fn yes_or_no(answer: Answer) -> Result<bool, Refusal> {
     match answer? {
         0 => Ok(false),
         1 => Ok(true),
-        number => panic!("the library answered {number} for yes or no: is it of another version than this crate?"),
+        number => unknown(number, "yes or no"),
     }
+}
+
+pub fn species(answer: Answer) -> Result<Species, Refusal> {
+    let number = answer?;
+    Ok(Species::from_number(number).unwrap_or_else(|| unknown(number, "a species")))
+}
+
+/// The library is proved to answer nothing else; another answer means that another library was linked, and then no answer
+/// can be relied upon.
+fn unknown(given: impl Into<u64>, wanted: &str) -> ! {
+    panic!(
+        "the library answered {}, which is not {wanted}: it is not the one that this crate is written for",
+        given.into()
+    )
 }
 
 #[cfg(test)]
@@ -51,31 +61,37 @@ mod tests {
     #[test]
     fn every_refusal_has_its_number() {
         for refusal in Refusal::ALL {
-            assert_eq!(answer((1 << 32) + u64::from(refusal.number())), Err(refusal));
+            assert_eq!(answer((1 << 32) + u64::from(refusal.number())), Err(*refusal));
         }
     }
 
     #[test]
-    #[should_panic(expected = "no answer")]
+    #[should_panic(expected = "not an answer")]
     fn a_refusal_without_a_case() {
         let _ = answer(0x1_0000_0017);
     }
 
     #[test]
-    #[should_panic(expected = "no answer")]
+    #[should_panic(expected = "not an answer")]
     fn more_than_33_bits() {
         let _ = answer(0x2_0000_0001);
     }
 
     #[test]
-    #[should_panic(expected = "where there is no number")]
+    #[should_panic(expected = "not done without a number")]
     fn a_number_too_many() {
         let _ = without_number(Ok(1));
     }
 
     #[test]
-    #[should_panic(expected = "yes or no")]
+    #[should_panic(expected = "not yes or no")]
     fn neither_yes_nor_no() {
         let _ = yes_or_no(Ok(2));
+    }
+
+    #[test]
+    #[should_panic(expected = "6, which is not a species")]
+    fn no_species() {
+        let _ = species(Ok(6));
     }
 }

@@ -5,27 +5,25 @@
 //! exactly one outcome. A refused call has changed nothing.
 //!
 //! There are users 0 to 7, each with entries 0 to 3 at which one file at a time is open. A file has elements of one
-//! width, its species: 0 to 5 for 1, 2, 4, 8, 16 and 32 bits. It is read and written through pointers: 0 is the begin,
-//! 1 the end, 2 the work pointer, and 3 to 7 are own pointers, made when they are wanted.
+//! width, its [`Species`], and is read and written through its [pointers](mod@pointer).
 //!
 //! ```
-//! use dorrivand::{Refusal, Store};
+//! use dorrivand::{pointer, Refusal, Species, Store};
 //!
 //! # fn main() -> Result<(), Refusal> {
 //! let mut store = Store::with_segments(16)?;
 //!
 //! // User 2 makes a file of two 16-bit elements and keeps it private.
-//! store.open_new(2, 0, 4)?;
-//! store.write(2, 0, 1, 301)?;
-//! store.write(2, 0, 1, 417)?;
+//! store.open_new(2, 0, Species::Bits16)?;
+//! store.write(2, 0, pointer::END, 301)?;
+//! store.write(2, 0, pointer::END, 417)?;
 //! store.rename(2, 0, "lift 7")?;
 //! store.close_private(2, 0)?;
 //!
 //! // It can be read again, by its owner and nobody else.
 //! store.open_read(2, 0, "lift 7")?;
-//! assert_eq!(store.next(2, 0, 2), Ok(301));
-//! assert_eq!(store.next(2, 0, 2), Ok(417));
-//! assert_eq!(store.next(2, 0, 2), Err(Refusal::BeyondEnd));
+//! let faults: Vec<u32> = store.elements(2, 0, pointer::WORK).collect::<Result<_, _>>()?;
+//! assert_eq!(faults, [301, 417]);
 //! assert_eq!(store.open_read(3, 0, "lift 7"), Err(Refusal::NotYours));
 //! # Ok(())
 //! # }
@@ -34,12 +32,51 @@
 //! # Names
 //!
 //! A name is made from bytes: space, tab and newline are skipped; `0` to `9` and `a` to `z` are the symbols 0 to 35; any
-//! other byte ends the name; what follows the twelfth symbol is ignored. The empty name is the scratch name.
+//! other byte ends the name; what follows the twelfth symbol is ignored. The empty name is the scratch name. No call
+//! refuses a name for its bytes, so a natural name can lose a file:
 //!
-//! # Refusals
+//! ```
+//! use dorrivand::{Refusal, Species, Store};
 //!
-//! Each call lists its refusals in the order in which they are judged: the first that applies is given. No call
-//! panics, unless the library that was linked gives answers that this crate does not know.
+//! let mut store = Store::with_segments(16)?;
+//!
+//! // A capital letter ends the name. This one is empty, and a scratch file is gone at its close.
+//! store.open_new(2, 0, Species::Bits16)?;
+//! store.rename(2, 0, "Lift 7")?;
+//! store.close_private(2, 0)?;
+//! assert_eq!(store.open_read(2, 0, "lift 7"), Err(Refusal::UnknownName));
+//!
+//! // A hyphen ends the name too: "lift-7" is "lift".
+//! store.open_new(2, 0, Species::Bits16)?;
+//! store.rename(2, 0, "lift-7")?;
+//! store.close_private(2, 0)?;
+//! store.open_read(2, 0, "lift")?;
+//!
+//! // Twelve symbols are kept: "building 12 lift 1" and "building 12 lift 2" are both "building12li", one file.
+//! store.open_new(2, 1, Species::Bits16)?;
+//! store.rename(2, 1, "building 12 lift 1")?;
+//! store.close_private(2, 1)?;
+//! store.open_read(2, 1, "building 12 lift 2")?;
+//! # Ok::<(), Refusal>(())
+//! ```
+//!
+//! A [`Name`] is made only of bytes of which nothing is lost.
+//!
+//! # Errors
+//!
+//! Each call lists its refusals in the order in which they are judged: the first that applies is given. A refusal
+//! [displays](Refusal#impl-Display-for-Refusal) its words; a `main` that returns it prints its identifier instead, so let it
+//! print the words itself, as `examples/backup.rs` does.
+//!
+//! # Panics
+//!
+//! No call panics. A store is not made, and a call does panic, where the library that was linked is not the one that this
+//! crate is written for ([`VERSION`]).
+//!
+//! # Keeping a store
+//!
+//! The module keeps nothing anywhere but in the cells that it is lent. docs/OPERATING.md says what to write to disk, and
+//! `examples/backup.rs` does it.
 
 #![deny(missing_docs)]
 #![deny(unsafe_code)]
@@ -50,17 +87,27 @@ mod calls;
 mod cells;
 #[allow(unsafe_code)]
 mod door;
+mod elements;
+mod name;
+pub mod pointer;
 mod refusal;
+mod species;
 mod store;
+mod version;
 
+pub use elements::Elements;
+pub use name::{Name, NameError};
 pub use refusal::Refusal;
+pub use species::{Species, SpeciesNumber};
 pub use store::Store;
+pub use version::{library_version, VERSION};
 
 /// The one length of the tables, in cells.
 ///
 /// ```
 /// assert_eq!(dorrivand::tables_length(), 4993);
 /// ```
+#[must_use]
 pub fn tables_length() -> usize {
     door::tables_length()
 }
@@ -70,6 +117,7 @@ pub fn tables_length() -> usize {
 /// ```
 /// assert_eq!(dorrivand::image_length(), 897);
 /// ```
+#[must_use]
 pub fn image_length() -> usize {
     door::image_length()
 }

@@ -13,6 +13,7 @@ use std::fmt;
 /// assert_eq!(Refusal::from_number(12), Some(Refusal::NotYours));
 /// ```
 #[derive(Clone, Copy, PartialEq, Eq, PartialOrd, Ord, Hash, Debug)]
+#[non_exhaustive]
 #[repr(u32)]
 pub enum Refusal {
     /// 1: user above 7.
@@ -68,7 +69,7 @@ impl Refusal {
     /// let numbers: Vec<u32> = dorrivand::Refusal::ALL.iter().map(|refusal| refusal.number()).collect();
     /// assert_eq!(numbers, (1..=22).collect::<Vec<u32>>());
     /// ```
-    pub const ALL: [Refusal; 22] = [
+    pub const ALL: &'static [Refusal] = &[
         Refusal::NoSuchUser,
         Refusal::EntryNotOpen,
         Refusal::EntryOpen,
@@ -94,6 +95,7 @@ impl Refusal {
     ];
 
     /// The refusal's number, 1 to 22.
+    #[must_use]
     pub const fn number(self) -> u32 {
         self as u32
     }
@@ -107,8 +109,9 @@ impl Refusal {
     /// assert_eq!(Refusal::from_number(0), None);
     /// assert_eq!(Refusal::from_number(23), None);
     /// ```
+    #[must_use]
     pub fn from_number(number: u32) -> Option<Refusal> {
-        Refusal::ALL.into_iter().find(|refusal| refusal.number() == number)
+        Refusal::ALL.iter().copied().find(|refusal| refusal.number() == number)
     }
 
     fn words(self) -> &'static str {

@@ -2,6 +2,7 @@
 
 use crate::cells::Cells;
 use crate::refusal::Refusal;
+use crate::version::check_library;
 use std::fmt;
 
 /// "a segment is 4 blocks, 64 cells."
@@ -22,7 +23,9 @@ pub struct Store<'a> {
 impl Store<'static> {
     /// A store of so many segments of 64 cells, freshly started: no files, nothing open. It gets at most 1,024.
     ///
-    /// Refusals: [`UnsoundTables`](Refusal::UnsoundTables) (20) for 0 segments.
+    /// # Errors
+    ///
+    /// [`UnsoundTables`](Refusal::UnsoundTables) (20) for 0 segments.
     ///
     /// ```
     /// use dorrivand::{Refusal, Store};
@@ -54,7 +57,9 @@ impl Store<'static> {
     /// assert_eq!(Store::from_cells(vec![0; 640], vec![]).free_segments(0), Err(Refusal::UnsoundTables));
     /// # Ok::<(), Refusal>(())
     /// ```
+    #[must_use]
     pub fn from_cells(cells: Vec<u32>, tables: Vec<u32>) -> Store<'static> {
+        check_library();
         Store { cells: Cells::Owned(cells), tables: Cells::Owned(tables) }
     }
 }
@@ -64,7 +69,7 @@ impl<'a> Store<'a> {
     /// length or unsound, or the store is too short for them, the calls say so.
     ///
     /// ```
-    /// use dorrivand::{Refusal, Store};
+    /// use dorrivand::{pointer, Refusal, Species, Store};
     ///
     /// let mut cells = [0; 640];
     /// let mut tables = vec![0; dorrivand::tables_length()];
@@ -72,8 +77,8 @@ impl<'a> Store<'a> {
     /// let mut store = Store::over(&mut cells, &mut tables);
     /// assert_eq!(store.free_segments(0), Err(Refusal::UnsoundTables));
     /// store.fresh_start()?;
-    /// store.open_new(0, 0, 5)?;
-    /// store.write(0, 0, 1, 77)?;
+    /// store.open_new(0, 0, Species::Bits32)?;
+    /// store.write(0, 0, pointer::END, 77)?;
     ///
     /// assert_eq!(cells[0], 77);
     /// # Ok::<(), Refusal>(())
@@ -86,23 +91,26 @@ impl<'a> Store<'a> {
     /// let store = dorrivand::Store::over(&mut cells[..5_000], &mut cells[4_000..]);
     /// store.free_segments(0);
     /// ```
+    #[must_use]
     pub fn over(cells: &'a mut [u32], tables: &'a mut [u32]) -> Store<'a> {
+        check_library();
         Store { cells: Cells::Lent(cells), tables: Cells::Lent(tables) }
     }
 
     /// The store's cells.
     ///
     /// ```
-    /// use dorrivand::Store;
+    /// use dorrivand::{pointer, Species, Store};
     ///
     /// let mut store = Store::with_segments(1)?;
-    /// store.open_new(0, 0, 2)?;
+    /// store.open_new(0, 0, Species::Bits4)?;
     /// for number in [0, 0, 0, 0, 0, 0, 0, 0, 0, 10] {
-    ///     store.write(0, 0, 1, number)?;
+    ///     store.write(0, 0, pointer::END, number)?;
     /// }
     /// assert_eq!(store.cells()[1], 0x0A00_0000);
     /// # Ok::<(), dorrivand::Refusal>(())
     /// ```
+    #[must_use]
     pub fn cells(&self) -> &[u32] {
         &self.cells
     }
@@ -110,15 +118,16 @@ impl<'a> Store<'a> {
     /// The store's cells, to be written to. Files have the elements that their cells hold.
     ///
     /// ```
-    /// use dorrivand::Store;
+    /// use dorrivand::{pointer, Species, Store};
     ///
     /// let mut store = Store::with_segments(1)?;
-    /// store.open_new(0, 0, 5)?;
-    /// store.write(0, 0, 1, 10)?;
+    /// store.open_new(0, 0, Species::Bits32)?;
+    /// store.write(0, 0, pointer::END, 10)?;
     /// store.cells_mut()[0] = 11;
-    /// assert_eq!(store.next(0, 0, 2), Ok(11));
+    /// assert_eq!(store.next(0, 0, pointer::WORK), Ok(11));
     /// # Ok::<(), dorrivand::Refusal>(())
     /// ```
+    #[must_use]
     pub fn cells_mut(&mut self) -> &mut [u32] {
         &mut self.cells
     }
@@ -131,6 +140,7 @@ impl<'a> Store<'a> {
     /// assert_eq!(store.tables()[0], 128);
     /// # Ok::<(), dorrivand::Refusal>(())
     /// ```
+    #[must_use]
     pub fn tables(&self) -> &[u32] {
         &self.tables
     }
@@ -146,6 +156,7 @@ impl<'a> Store<'a> {
     /// assert_eq!(store.free_segments(0), Err(Refusal::UnsoundTables));
     /// # Ok::<(), Refusal>(())
     /// ```
+    #[must_use]
     pub fn tables_mut(&mut self) -> &mut [u32] {
         &mut self.tables
     }
@@ -160,6 +171,7 @@ impl<'a> Store<'a> {
     /// assert_eq!(Store::from_cells(cells, tables).free_segments(0), Ok(3));
     /// # Ok::<(), dorrivand::Refusal>(())
     /// ```
+    #[must_use]
     pub fn into_cells(self) -> (Vec<u32>, Vec<u32>) {
         (self.cells.into_owned(), self.tables.into_owned())
     }

@@ -1,13 +1,13 @@
 //! Each refusal once, with its number, and that it leaves every cell as it stood.
 
-use dorrivand::{Refusal, Store};
+use dorrivand::{pointer, Refusal, Species, Store};
 
 /// What is needed for most refusals: of user 0 a private file "mine" and a public file "ours", of user 1 a private "his".
 fn three_files() -> Store<'static> {
     let mut store = Store::with_segments(3).expect("there is a segment");
     for (user, name, public) in [(0, "mine", false), (0, "ours", true), (1, "his", false)] {
-        assert_eq!(store.open_new(user, 0, 5), Ok(()));
-        assert_eq!(store.write(user, 0, 1, 7), Ok(()));
+        assert_eq!(store.open_new(user, 0, Species::Bits32), Ok(()));
+        assert_eq!(store.write(user, 0, pointer::END, 7), Ok(()));
         assert_eq!(store.rename(user, 0, name), Ok(()));
         let closed = if public { store.close_public(user, 0) } else { store.close_private(user, 0) };
         assert_eq!(closed, Ok(()));
@@ -33,11 +33,11 @@ fn users_entries_and_pointers() {
     assert_eq!(store.open_work(0, 0, "mine"), Ok(()));
     refused(&mut store, 3, |store| store.open_new(0, 0, 9));
     refused(&mut store, 4, |store| store.value(0, 0, 3));
-    refused(&mut store, 4, |store| store.delete_pointer(0, 0, 2));
+    refused(&mut store, 4, |store| store.delete_pointer(0, 0, pointer::WORK));
     for name in 3..=7 {
-        assert_eq!(store.new_pointer(0, 0, 2), Ok(name));
+        assert_eq!(store.new_pointer(0, 0, pointer::WORK), Ok(name));
     }
-    refused(&mut store, 21, |store| store.new_pointer(0, 0, 2));
+    refused(&mut store, 21, |store| store.new_pointer(0, 0, pointer::WORK));
 }
 
 #[test]
@@ -56,13 +56,13 @@ fn opening() {
 fn access() {
     let mut store = three_files();
     assert_eq!(store.open_read(0, 1, "ours"), Ok(()));
-    refused(&mut store, 5, |store| store.write(0, 1, 1, 7));
+    refused(&mut store, 5, |store| store.write(0, 1, pointer::END, 7));
     refused(&mut store, 5, |store| store.rename(0, 1, "a"));
     assert_eq!(store.open_work(0, 0, "mine"), Ok(()));
-    refused(&mut store, 6, |store| store.prev(0, 0, 2));
-    refused(&mut store, 9, |store| store.write(0, 0, 2, 8));
-    assert_eq!(store.next(0, 0, 2), Ok(7));
-    refused(&mut store, 7, |store| store.next(0, 0, 2));
+    refused(&mut store, 6, |store| store.prev(0, 0, pointer::WORK));
+    refused(&mut store, 9, |store| store.write(0, 0, pointer::WORK, 8));
+    assert_eq!(store.next(0, 0, pointer::WORK), Ok(7));
+    refused(&mut store, 7, |store| store.next(0, 0, pointer::WORK));
 }
 
 #[test]
@@ -79,11 +79,11 @@ fn closing() {
 fn the_65th_file() {
     let mut store = Store::with_segments(1).expect("there is a segment");
     for number in 0..64 {
-        assert_eq!(store.open_new(0, 0, 0), Ok(()));
+        assert_eq!(store.open_new(0, 0, Species::Bits1), Ok(()));
         assert_eq!(store.rename(0, 0, number.to_string()), Ok(()));
         assert_eq!(store.close_private(0, 0), Ok(()));
     }
-    assert_eq!(store.open_new(0, 0, 0), Ok(()));
+    assert_eq!(store.open_new(0, 0, Species::Bits1), Ok(()));
     assert_eq!(store.rename(0, 0, "64"), Ok(()));
     refused(&mut store, 17, |store| store.close_private(0, 0));
 }

@@ -1,18 +1,18 @@
 //! Owned and lent cells, odd lengths, and cells that are nobody's.
 
-use dorrivand::{Refusal, Store};
+use dorrivand::{pointer, Refusal, Species, Store};
 
 /// A short day: a file made, closed, and worked on again.
 fn some_calls(store: &mut Store) -> Result<u32, Refusal> {
     store.fresh_start()?;
-    store.open_new(3, 1, 1)?;
+    store.open_new(3, 1, Species::Bits2)?;
     for number in 0..1500 {
-        store.write(3, 1, 1, number)?;
+        store.write(3, 1, pointer::END, number)?;
     }
     store.rename(3, 1, "a")?;
     store.close_public(3, 1)?;
     store.open_work(3, 2, "a")?;
-    store.write(3, 2, 2, 3)?;
+    store.write(3, 2, pointer::WORK, 3)?;
     store.free_segments(3)
 }
 
@@ -32,7 +32,7 @@ fn a_store_of_the_same_cells_is_the_same_store() {
     assert_eq!(some_calls(&mut store), Ok(7));
     let (cells, tables) = store.into_cells();
     let mut again = Store::from_cells(cells, tables);
-    assert_eq!(again.next(3, 2, 2), Ok(1));
+    assert_eq!(again.next(3, 2, pointer::WORK), Ok(1));
     assert_eq!(again.free_segments(3), Ok(7));
 }
 
@@ -64,7 +64,7 @@ fn nothing_lent_at_all() {
 #[test]
 fn names_of_any_kind_of_bytes() {
     let mut store = Store::with_segments(1).expect("there is a segment");
-    assert_eq!(store.open_new(0, 0, 0), Ok(()));
+    assert_eq!(store.open_new(0, 0, Species::Bits1), Ok(()));
     assert_eq!(store.rename(0, 0, "lift 7"), Ok(()));
     assert_eq!(store.rename(0, 0, String::from("lift 7")), Ok(()));
     assert_eq!(store.rename(0, 0, vec![b'z'; 100_000]), Ok(()));

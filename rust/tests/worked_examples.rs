@@ -1,6 +1,6 @@
 //! "Worked examples", through the door.
 
-use dorrivand::{Refusal, Store};
+use dorrivand::{pointer, Refusal, Species, Store};
 
 /// The begin and the end of user 0's entry 0 in the tables (docs/TABLES.md).
 const BEGIN_CELL: usize = 3201 + 4;
@@ -15,7 +15,7 @@ fn store_with(segments: usize, species: u32, elements: &[u32]) -> Store<'static>
     let mut store = store(segments);
     assert_eq!(store.open_new(0, 0, species), Ok(()));
     for &element in elements {
-        assert_eq!(store.write(0, 0, 1, element), Ok(()));
+        assert_eq!(store.write(0, 0, pointer::END, element), Ok(()));
     }
     store
 }
@@ -50,18 +50,18 @@ fn width_4_position_10_element_10() {
 #[test]
 fn three_hundred_in_species_3() {
     let mut store = store_with(1, 3, &[300]);
-    assert_eq!(store.next(0, 0, 2), Ok(44));
+    assert_eq!(store.next(0, 0, pointer::WORK), Ok(44));
 }
 
 #[test]
 fn claims_at_a_boundary() {
     let mut store = store_with(4, 5, &[7; 65]);
     for _ in 0..63 {
-        assert_eq!(store.next(0, 0, 0), Ok(7));
+        assert_eq!(store.next(0, 0, pointer::BEGIN), Ok(7));
     }
     assert_eq!((store.begin(0, 0), store.end(0, 0)), (Ok(64), Ok(66)));
     assert_eq!((store.claim(0, 0), store.free_segments(0)), (Ok(65), Ok(2)));
-    assert_eq!((store.prev(0, 0, 1), store.next(0, 0, 0)), (Ok(7), Ok(7)));
+    assert_eq!((store.prev(0, 0, pointer::END), store.next(0, 0, pointer::BEGIN)), (Ok(7), Ok(7)));
     assert_eq!((store.begin(0, 0), store.end(0, 0)), (Ok(65), Ok(65)));
     assert_eq!((store.claim(0, 0), store.free_segments(0)), (Ok(0), Ok(4)));
 }
@@ -69,15 +69,15 @@ fn claims_at_a_boundary() {
 #[test]
 fn prev_through_the_end() {
     let mut store = store_with(1, 5, &[10, 20]);
-    assert_eq!(store.prev(0, 0, 1), Ok(20));
-    assert_eq!(store.prev(0, 0, 1), Ok(10));
-    assert_eq!(store.prev(0, 0, 1), Err(Refusal::BelowBegin));
+    assert_eq!(store.prev(0, 0, pointer::END), Ok(20));
+    assert_eq!(store.prev(0, 0, pointer::END), Ok(10));
+    assert_eq!(store.prev(0, 0, pointer::END), Err(Refusal::BelowBegin));
 }
 
 #[test]
 fn an_own_pointer_at_the_end() {
     let mut store = store_with(1, 5, &[10, 20]);
-    assert_eq!(store.new_pointer(0, 0, 1), Ok(3));
+    assert_eq!(store.new_pointer(0, 0, pointer::END), Ok(3));
     assert_eq!(store.write(0, 0, 3, 5), Err(Refusal::BeyondEnd));
     assert_eq!(store.prev(0, 0, 3), Ok(20));
     assert_eq!(store.end(0, 0), Ok(3));
@@ -87,8 +87,8 @@ fn an_own_pointer_at_the_end() {
 fn the_two_saved_images() {
     let mut store = store(128);
     assert_image(&store, &[0x0110_0000]);
-    assert_eq!(store.open_new(2, 0, 5), Ok(()));
-    assert_eq!(store.write(2, 0, 1, 1), Ok(()));
+    assert_eq!(store.open_new(2, 0, Species::Bits32), Ok(()));
+    assert_eq!(store.write(2, 0, pointer::END, 1), Ok(()));
     assert_eq!(store.rename(2, 0, "a"), Ok(()));
     assert_eq!(store.close_private(2, 0), Ok(()));
     assert_image(&store, &[0x0110_0000, 0x95FF_FFFF, 0xFFFF_FFFF, 0xFFAD_0000, 0x0100_0002]);
@@ -100,12 +100,12 @@ fn abandoned_work_leaves_the_file_as_it_was() {
     assert_eq!(store.rename(0, 0, "a"), Ok(()));
     assert_eq!(store.close_private(0, 0), Ok(()));
     assert_eq!(store.open_work(0, 0, "a"), Ok(()));
-    assert_eq!(store.prev(0, 0, 1), Ok(20));
-    assert_eq!(store.write(0, 0, 1, 99), Ok(()));
+    assert_eq!(store.prev(0, 0, pointer::END), Ok(20));
+    assert_eq!(store.write(0, 0, pointer::END, 99), Ok(()));
     assert_eq!(store.abandon(0, 0), Ok(()));
     assert_eq!(store.open_read(0, 0, "a"), Ok(()));
-    assert_eq!((store.next(0, 0, 2), store.next(0, 0, 2)), (Ok(10), Ok(20)));
-    assert_eq!(store.next(0, 0, 2), Err(Refusal::BeyondEnd));
+    assert_eq!((store.next(0, 0, pointer::WORK), store.next(0, 0, pointer::WORK)), (Ok(10), Ok(20)));
+    assert_eq!(store.next(0, 0, pointer::WORK), Err(Refusal::BeyondEnd));
 }
 
 #[test]
@@ -113,9 +113,9 @@ fn positions_are_used_up() {
     let mut store = store_with(1, 5, &[]);
     store.tables_mut()[BEGIN_CELL] = 16_777_214;
     store.tables_mut()[END_CELL] = 16_777_214;
-    assert_eq!(store.write(0, 0, 1, 8), Ok(()));
+    assert_eq!(store.write(0, 0, pointer::END, 8), Ok(()));
     assert_eq!(store.end(0, 0), Ok(16_777_215));
-    assert_eq!(store.write(0, 0, 1, 9), Err(Refusal::PositionsUsedUp));
+    assert_eq!(store.write(0, 0, pointer::END, 9), Err(Refusal::PositionsUsedUp));
 }
 
 #[test]
@@ -132,5 +132,5 @@ fn stores_of_63_and_64_cells() {
 fn eight_and_not_nine() {
     let mut store = store_with(32, 5, &[3; 2048]);
     assert_eq!(store.free_segments(0), Ok(0));
-    assert_eq!(store.write(0, 0, 1, 3), Err(Refusal::TooManySegments));
+    assert_eq!(store.write(0, 0, pointer::END, 3), Err(Refusal::TooManySegments));
 }

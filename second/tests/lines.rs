@@ -2,11 +2,11 @@
 
 mod common;
 
-use common::{check, fresh_desk};
+use common::{answer, check, fresh_desk};
 use std::io::Write;
 use std::process::{Command, Stdio};
 
-const BAD: [&str; 40] = [
+const BAD: [&str; 42] = [
     " ",
     " fresh",
     "fresh ",
@@ -47,6 +47,8 @@ const BAD: [&str; 40] = [
     "sum",
     "sum store 0",
     "peek tables 4294967295",
+    "help",
+    "help 0",
 ];
 
 #[test]
@@ -54,10 +56,30 @@ fn bad_lines_change_nothing() {
     let mut desk = fresh_desk(640);
     check(&mut desk, &[("sum tables", "sum 2095095467")]);
     for line in BAD {
-        let answer = desk.answer(line.as_bytes()).expect("answered");
+        let answer = answer(&mut desk, line);
         assert!(answer.starts_with('?') && !answer.contains('\n'), "{:?}: {}", line, answer);
     }
     check(&mut desk, &[("sum tables", "sum 2095095467"), ("sum store", "sum 0"), ("free 0", "done 10")]);
+}
+
+/// 24 calls and the four lines for tests.
+const GOOD_LINES: usize = 28;
+
+#[test]
+fn help_lists_good_lines() {
+    let help = answer(&mut fresh_desk(640), "help");
+    let listed: Vec<&str> = help.trim_start_matches("? ").split("; ").collect();
+    let first_words: std::collections::BTreeSet<_> = listed.iter().map(|line| line.split(' ').next()).collect();
+    assert_eq!(first_words.len(), GOOD_LINES);
+    for line in listed {
+        let words = line.split(' ').map(|word| match word {
+            "BUFFER" => "store",
+            "U" | "E" | "S" | "P" | "X" | "K" | "I" | "N" | "V" => "0",
+            word => word,
+        });
+        let line = words.collect::<Vec<_>>().join(" ");
+        assert!(!answer(&mut fresh_desk(640), &line).starts_with('?'), "{}", line);
+    }
 }
 
 #[test]

@@ -111,7 +111,7 @@ fn perform(
         "write" => nothing(store.write(user, entry, third, fourth)),
         "next" => store.next(user, entry, third),
         "prev" => store.prev(user, entry, third),
-        "species" => store.species(user, entry),
+        "species" => store.species(user, entry).map(u32::from),
         "claim" => store.claim(user, entry),
         "permit" => store.permit(user, entry).map(u32::from),
         "symbol" => store.symbol(user, entry, third),

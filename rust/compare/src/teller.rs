@@ -2,8 +2,9 @@
 
 use crate::pair::{Difference, Pair};
 use crate::random::Random;
-use filing::model::catalogue::{Catalogue, Record};
+use filing::model::catalogue::Catalogue;
 use filing::model::opening::Opening;
+use filing::model::record::Record;
 use filing::rules::name::Name;
 
 /// A story ends where the two differ.

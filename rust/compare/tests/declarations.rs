@@ -1,12 +1,25 @@
 //! Nothing but this holds the three declarations of the door against each other: the Rattle source, the header and the crate.
 
-use dorrivand::Refusal;
+use dorrivand::{Refusal, Species, VERSION};
 use std::collections::BTreeMap;
 use std::fs;
 use std::path::{Path, PathBuf};
 
-/// An export's arguments in order: name, and type as Rattle and Rust write it.
-type Arguments = Vec<(String, String)>;
+/// An export's arguments in order, name and type, and the type of its result, as Rattle and Rust write them.
+#[derive(PartialEq, Eq, Debug)]
+struct Signature {
+    arguments: Vec<(String, String)>,
+    result: String,
+}
+
+/// The signatures by the exports' names.
+type Exports = BTreeMap<String, Signature>;
+
+/// The result of an export that is a call.
+const ANSWER: &str = "u64";
+
+/// Types of C and of Rust.
+const RESULTS: [(&str, &str); 3] = [("uint64_t", ANSWER), ("uint32_t", "u32"), ("size_t", "usize")];
 
 fn repository() -> PathBuf {
     Path::new(env!("CARGO_MANIFEST_DIR")).join("../..")
@@ -16,35 +29,40 @@ fn text_of(path: &Path) -> String {
     fs::read_to_string(path).unwrap_or_else(|error| panic!("{}: {error}", path.display()))
 }
 
-fn header() -> String {
-    text_of(&repository().join("include/dorrivand.h"))
+fn header(name: &str) -> String {
+    text_of(&repository().join("include").join(name))
 }
 
-/// What stands between the parentheses that follow each export's name, where `before` stands in front of the name.
-fn exports<'a>(text: &'a str, before: &str) -> Vec<(String, &'a str)> {
+/// The exports' names where `before` stands in front of them, what stands between the parentheses that follow, and the rest.
+fn exports<'a>(text: &'a str, before: &str) -> Vec<(String, &'a str, &'a str)> {
     let starts = text.split(before).skip(1).filter(|rest| rest.starts_with("dorrivand_"));
     let declared = starts.map(|rest| {
         let (name, rest) = rest.split_once('(').expect("an export has arguments");
-        let (arguments, _) = rest.split_once(')').expect("arguments end");
-        (name.to_string(), arguments)
+        let (arguments, rest) = rest.split_once(')').expect("arguments end");
+        (name.to_string(), arguments, rest)
     });
-    declared.filter(|(name, _)| !name.ends_with("_length")).collect()
+    declared.collect()
 }
 
 fn parts(arguments: &str) -> impl Iterator<Item = &str> {
     arguments.split(',').map(str::trim).filter(|argument| !argument.is_empty())
 }
 
-/// "store: &mut [u32]".
-fn typed(arguments: &str) -> Arguments {
-    let pairs = parts(arguments).map(|argument| argument.split_once(": ").expect("an argument has a type"));
-    pairs.map(|(name, kind)| (name.to_string(), kind.to_string())).collect()
+/// "dorrivand_fresh(store: &[u32], tables: &mut [u32]) -> u64", as Rattle and the crate write it.
+fn in_rust(text: &str, before: &str) -> Exports {
+    let declared = exports(text, before).into_iter().map(|(name, arguments, rest)| {
+        let pairs = parts(arguments).map(|argument| argument.split_once(": ").expect("an argument has a type"));
+        let arguments = pairs.map(|(name, kind)| (name.to_string(), kind.to_string())).collect();
+        let result = rest.strip_prefix(" -> ").expect("a result").split([';', '\n']).next().expect("its type");
+        (name, Signature { arguments, result: result.to_string() })
+    });
+    declared.collect()
 }
 
 /// "uint32_t *store, size_t store_length".
-fn typed_in_c(arguments: &str) -> Arguments {
-    let mut found = Arguments::new();
-    for argument in parts(arguments) {
+fn typed_in_c(arguments: &str) -> Vec<(String, String)> {
+    let mut found = Vec::<(String, String)>::new();
+    for argument in parts(arguments).filter(|&argument| argument != "void") {
         let (kind, name) = argument.rsplit_once(' ').expect("an argument has a type");
         let (kind, name) = match (kind, name.strip_prefix('*')) {
             ("const uint32_t", Some(name)) => ("&[u32]", name),
@@ -63,58 +81,99 @@ fn typed_in_c(arguments: &str) -> Arguments {
     found
 }
 
-fn in_rattle() -> BTreeMap<String, Arguments> {
+fn in_rattle() -> Exports {
     let folder = repository().join("crates/door/src");
     let files = fs::read_dir(&folder).unwrap_or_else(|error| panic!("{}: {error}", folder.display()));
-    let mut found = BTreeMap::new();
-    for file in files {
-        let text = text_of(&file.expect("a file of the folder").path());
-        found.extend(exports(&text, "extern \"C\" fn ").into_iter().map(|(name, arguments)| (name, typed(arguments))));
-    }
-    found
+    let texts = files.map(|file| text_of(&file.expect("a file of the folder").path()));
+    texts.flat_map(|text| in_rust(&text, "extern \"C\" fn ")).collect()
 }
 
-fn in_the_crate() -> BTreeMap<String, Arguments> {
+fn in_the_crate() -> Exports {
     let text = text_of(&repository().join("rust/src/door.rs"));
     let (_, list) = text.split_once("door! {\n").expect("the list of exports");
-    exports(list, " = ").into_iter().map(|(name, arguments)| (name, typed(arguments))).collect()
+    in_rust(list, " = ")
 }
 
-fn in_the_header() -> BTreeMap<String, Arguments> {
-    let text = header();
-    exports(&text, "uint64_t ").into_iter().map(|(name, arguments)| (name, typed_in_c(arguments))).collect()
+fn in_the_header() -> Exports {
+    let text = header("dorrivand.h");
+    let mut found = Exports::new();
+    for (in_c, result) in RESULTS {
+        let declared = exports(&text, &format!("\n{in_c} "));
+        found.extend(declared.into_iter().map(|(name, arguments, _)| {
+            (name, Signature { arguments: typed_in_c(arguments), result: result.to_string() })
+        }));
+    }
+    found
 }
 
 #[test]
 fn the_three_declarations_agree() {
     let rattle = in_rattle();
-    assert_eq!(rattle.len(), compare::line::CALLS.len());
-    assert_eq!(rattle, in_the_crate());
-    assert_eq!(rattle, in_the_header());
+    let calls = rattle.values().filter(|signature| signature.result == ANSWER).count();
+    assert_eq!(calls, compare::line::CALLS.len());
+    for (whose, others) in [("the crate's", in_the_crate()), ("the header's", in_the_header())] {
+        for name in rattle.keys().chain(others.keys()) {
+            assert_eq!(rattle.get(name), others.get(name), "Rattle's {name}, and {whose}");
+        }
+    }
 }
 
-/// The header's name of a refusal, from the crate's: NotYours, DORRIVAND_NOT_YOURS.
-fn name_in_c(refusal: Refusal) -> String {
-    let mut name = String::from("DORRIVAND");
-    for letter in format!("{refusal:?}").chars() {
-        if letter.is_uppercase() {
-            name.push('_');
+/// The header's name of a refusal or a species, from the crate's: NotYours, DORRIVAND_NOT_YOURS; Bits16, DORRIVAND_BITS_16.
+fn name_in_c(name: &str) -> String {
+    let mut in_c = String::from("DORRIVAND");
+    let mut after_digit = false;
+    for letter in name.chars() {
+        if letter.is_uppercase() || (letter.is_ascii_digit() && !after_digit) {
+            in_c.push('_');
         }
-        name.extend(letter.to_uppercase());
+        after_digit = letter.is_ascii_digit();
+        in_c.extend(letter.to_uppercase());
     }
-    name
+    in_c
+}
+
+/// The names and numbers of an enum of the header.
+fn constants(text: &str, name: &str) -> Vec<(String, u32)> {
+    let (_, body) = text.split_once(&format!("enum {name} {{")).expect("the enum");
+    let (body, _) = body.split_once('}').expect("its end");
+    let pairs = parts(body).map(|constant| constant.split_once(" = ").expect("a number"));
+    pairs.map(|(name, number)| (name.to_string(), number.parse().expect("digits"))).collect()
 }
 
 #[test]
 fn the_refusals_have_one_number_and_one_text() {
-    let text = header();
-    let lines: Vec<&str> = text.lines().map(str::trim).filter(|line| line.starts_with("DORRIVAND_")).collect();
-    assert_eq!(lines.len(), Refusal::ALL.len());
-    for (line, refusal) in lines.iter().zip(Refusal::ALL) {
-        let (name, rest) = line.split_once(" = ").expect("a number");
-        let (number, words) = rest.split_once("/* ").expect("words");
-        assert_eq!(name, name_in_c(refusal));
-        assert_eq!(number.trim().trim_end_matches(','), refusal.number().to_string());
-        assert_eq!(words.trim_end_matches(" */"), refusal.to_string());
+    let text = header("dorrivand_answers.h");
+    let wanted = Refusal::ALL.iter().map(|refusal| (name_in_c(&format!("{refusal:?}")), refusal.number()));
+    assert_eq!(constants(&text, "dorrivand_refusal"), wanted.collect::<Vec<_>>());
+    let cases: Vec<&str> = text.lines().map(str::trim).filter(|line| line.starts_with("case ")).collect();
+    let wanted = Refusal::ALL
+        .iter()
+        .map(|refusal| format!("case {}: return \"{refusal}\";", name_in_c(&format!("{refusal:?}"))));
+    assert_eq!(cases, wanted.collect::<Vec<_>>());
+
+    let histories = text_of(&repository().join("histories/README.md"));
+    for refusal in Refusal::ALL {
+        let row = format!("| {} | {refusal} |", refusal.number());
+        assert!(histories.contains(&row), "histories/README.md has no {row}");
     }
+}
+
+#[test]
+fn each_call_has_its_line_in_the_readme_of_histories() {
+    let histories = text_of(&repository().join("histories/README.md"));
+    for call in compare::line::CALLS {
+        let line = histories.split('`').any(|code| code == call || code.starts_with(&format!("{call} ")));
+        assert!(line, "histories/README.md has no {call}");
+    }
+}
+
+#[test]
+fn species_pointers_and_version_have_one_number() {
+    let text = header("dorrivand.h");
+    let wanted = Species::ALL.iter().map(|species| (name_in_c(&format!("{species:?}")), species.number()));
+    assert_eq!(constants(&text, "dorrivand_species"), wanted.collect::<Vec<_>>());
+    let pointers = constants(&text, "dorrivand_pointer").into_iter().map(|(_, number)| number);
+    use dorrivand::pointer::{BEGIN, END, WORK};
+    assert_eq!(pointers.collect::<Vec<_>>(), [BEGIN, END, WORK]);
+    assert!(text.contains(&format!("\n#define DORRIVAND_VERSION {VERSION}\n")));
 }

@@ -67,7 +67,7 @@ fn in_the_header() {
 fn in_the_crate() {
     let files = ["access", "closing", "inquiries", "opening", "operator", "pointers"];
     let text: String = files.iter().map(|file| text_of(&format!("../src/calls/{file}.rs"))).collect();
-    for part in text.split("Refusals: ").skip(1) {
+    for part in text.split("# Errors").skip(1) {
         let (list, rest) = part.split_once("```").expect("an example follows");
         let (_, name) = rest.split_once("pub fn ").expect("a method follows");
         let (name, _) = name.split_once('(').expect("with arguments");
@@ -76,5 +76,5 @@ fn in_the_crate() {
         let numbers = list.split('(').skip(1).filter_map(|rest| rest.split(')').next()?.parse().ok());
         assert_eq!(numbers.collect::<BTreeSet<u32>>(), refusals_of(call), "{name}");
     }
-    assert_eq!(text.matches("Refusals: ").count(), CALLS.len());
+    assert_eq!(text.matches("# Errors").count(), CALLS.len());
 }

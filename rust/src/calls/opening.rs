@@ -3,45 +3,50 @@
 use crate::answer::without_number;
 use crate::door;
 use crate::refusal::Refusal;
+use crate::species::SpeciesNumber;
 use crate::store::Store;
 
 impl Store<'_> {
     /// Opens a new file: empty, of this species, named by the scratch name, with work permit.
     ///
-    /// Refusals: [`UnsoundTables`](Refusal::UnsoundTables) (20), [`NoSuchUser`](Refusal::NoSuchUser) (1),
+    /// # Errors
+    ///
+    /// [`UnsoundTables`](Refusal::UnsoundTables) (20), [`NoSuchUser`](Refusal::NoSuchUser) (1),
     /// [`EntryNotOpen`](Refusal::EntryNotOpen) (2) for an entry above 3, [`EntryOpen`](Refusal::EntryOpen) (3),
     /// [`NoSuchSpecies`](Refusal::NoSuchSpecies) (19).
     ///
     /// ```
-    /// use dorrivand::{Refusal, Store};
+    /// use dorrivand::{Refusal, Species, Store};
     ///
     /// let mut store = Store::with_segments(4)?;
-    /// store.open_new(0, 3, 5)?;
+    /// store.open_new(0, 3, Species::Bits32)?;
     /// assert_eq!((store.begin(0, 3), store.end(0, 3)), (Ok(1), Ok(1)));
-    /// assert_eq!(store.open_new(0, 3, 5), Err(Refusal::EntryOpen));
-    /// assert_eq!(store.open_new(0, 4, 5), Err(Refusal::EntryNotOpen));
-    /// assert_eq!(store.open_new(8, 0, 5), Err(Refusal::NoSuchUser));
+    /// assert_eq!(store.open_new(0, 3, Species::Bits32), Err(Refusal::EntryOpen));
+    /// assert_eq!(store.open_new(0, 4, Species::Bits32), Err(Refusal::EntryNotOpen));
+    /// assert_eq!(store.open_new(8, 0, Species::Bits32), Err(Refusal::NoSuchUser));
     /// assert_eq!(store.open_new(0, 0, 6), Err(Refusal::NoSuchSpecies));
     /// # Ok::<(), Refusal>(())
     /// ```
-    pub fn open_new(&mut self, user: u32, entry: u32, species: u32) -> Result<(), Refusal> {
-        without_number(door::new(&self.cells, &mut self.tables, user, entry, species))
+    pub fn open_new(&mut self, user: u32, entry: u32, species: impl SpeciesNumber) -> Result<(), Refusal> {
+        without_number(door::new(&self.cells, &mut self.tables, user, entry, species.into()))
     }
 
     /// Opens a permanent file by name, with work permit: the user's own file of that name first, then a public one. The work
     /// pointer stands at the begin. What is changed becomes the file's at a close, and is nowhere after an [abandon](Store::abandon).
     ///
-    /// Refusals: [`UnsoundTables`](Refusal::UnsoundTables) (20), [`NoSuchUser`](Refusal::NoSuchUser) (1),
+    /// # Errors
+    ///
+    /// [`UnsoundTables`](Refusal::UnsoundTables) (20), [`NoSuchUser`](Refusal::NoSuchUser) (1),
     /// [`EntryNotOpen`](Refusal::EntryNotOpen) (2) for an entry above 3, [`EntryOpen`](Refusal::EntryOpen) (3),
     /// [`EmptyName`](Refusal::EmptyName) (15), [`UnknownName`](Refusal::UnknownName) (11) or, where another user has a
     /// private file of that name, [`NotYours`](Refusal::NotYours) (12), [`NoWorkOnAnothers`](Refusal::NoWorkOnAnothers)
     /// (13) for another's public file, [`NotNow`](Refusal::NotNow) (14) while the file is open at all.
     ///
     /// ```
-    /// use dorrivand::{Refusal, Store};
+    /// use dorrivand::{Refusal, Species, Store};
     ///
     /// let mut store = Store::with_segments(4)?;
-    /// store.open_new(0, 0, 5)?;
+    /// store.open_new(0, 0, Species::Bits32)?;
     /// store.rename(0, 0, "notice")?;
     /// store.close_public(0, 0)?;
     ///
@@ -59,25 +64,27 @@ impl Store<'_> {
     /// Opens a permanent file by name, for reading: the user's own file of that name first, then a public one. The work
     /// pointer stands at the begin.
     ///
-    /// Refusals: [`UnsoundTables`](Refusal::UnsoundTables) (20), [`NoSuchUser`](Refusal::NoSuchUser) (1),
+    /// # Errors
+    ///
+    /// [`UnsoundTables`](Refusal::UnsoundTables) (20), [`NoSuchUser`](Refusal::NoSuchUser) (1),
     /// [`EntryNotOpen`](Refusal::EntryNotOpen) (2) for an entry above 3, [`EntryOpen`](Refusal::EntryOpen) (3),
     /// [`EmptyName`](Refusal::EmptyName) (15), [`UnknownName`](Refusal::UnknownName) (11) or, where another user has a
     /// private file of that name, [`NotYours`](Refusal::NotYours) (12), [`NotNow`](Refusal::NotNow) (14) while the file is
     /// open for work.
     ///
     /// ```
-    /// use dorrivand::{Refusal, Store};
+    /// use dorrivand::{pointer, Refusal, Species, Store};
     ///
     /// let mut store = Store::with_segments(4)?;
-    /// store.open_new(0, 0, 5)?;
-    /// store.write(0, 0, 1, 10)?;
+    /// store.open_new(0, 0, Species::Bits32)?;
+    /// store.write(0, 0, pointer::END, 10)?;
     /// store.rename(0, 0, "notice")?;
     /// store.close_public(0, 0)?;
     ///
     /// store.open_read(0, 0, "notice")?;
     /// store.open_read(7, 3, b" not ice")?;
-    /// assert_eq!(store.next(7, 3, 2), Ok(10));
-    /// assert_eq!(store.write(7, 3, 2, 11), Err(Refusal::NoWorkPermit));
+    /// assert_eq!(store.next(7, 3, pointer::WORK), Ok(10));
+    /// assert_eq!(store.write(7, 3, pointer::WORK, 11), Err(Refusal::NoWorkPermit));
     /// # Ok::<(), Refusal>(())
     /// ```
     pub fn open_read(&mut self, user: u32, entry: u32, name: impl AsRef<[u8]>) -> Result<(), Refusal> {

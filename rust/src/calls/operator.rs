@@ -9,7 +9,9 @@ impl Store<'_> {
     /// Starts afresh: no files, nothing open, and one segment for every 64 cells of the store, at most 1,024. It does not look
     /// at what the tables held.
     ///
-    /// Refusals: [`UnsoundTables`](Refusal::UnsoundTables) (20), for the lengths alone.
+    /// # Errors
+    ///
+    /// [`UnsoundTables`](Refusal::UnsoundTables) (20), for the lengths alone.
     ///
     /// ```
     /// use dorrivand::{Refusal, Store};
@@ -28,9 +30,12 @@ impl Store<'_> {
     }
 
     /// Writes the permanent files' records to an image of [`image_length`](crate::image_length) cells, whatever is open.
-    /// The elements stay in the store's cells and are not in the image.
+    /// The elements stay in the store's cells and are not in the image: it is a backup only together with the
+    /// [cells](Store::cells) of the same moment.
     ///
-    /// Refusals: [`UnsoundTables`](Refusal::UnsoundTables) (20), then [`UnsoundImage`](Refusal::UnsoundImage) (22), for
+    /// # Errors
+    ///
+    /// [`UnsoundTables`](Refusal::UnsoundTables) (20), then [`UnsoundImage`](Refusal::UnsoundImage) (22), for
     /// the image's length alone.
     ///
     /// ```
@@ -49,17 +54,19 @@ impl Store<'_> {
     }
 
     /// Takes the records and the number of segments from an image; nothing is open afterwards. It does not look at
-    /// what the tables held.
+    /// what the tables held. The elements are those that the store's cells hold now.
     ///
-    /// Refusals: [`UnsoundTables`](Refusal::UnsoundTables) (20), for the lengths alone, then
+    /// # Errors
+    ///
+    /// [`UnsoundTables`](Refusal::UnsoundTables) (20), for the lengths alone, then
     /// [`UnsoundImage`](Refusal::UnsoundImage) (22).
     ///
     /// ```
-    /// use dorrivand::{Refusal, Store};
+    /// use dorrivand::{pointer, Refusal, Species, Store};
     ///
     /// let mut store = Store::with_segments(128)?;
-    /// store.open_new(2, 0, 5)?;
-    /// store.write(2, 0, 1, 77)?;
+    /// store.open_new(2, 0, Species::Bits32)?;
+    /// store.write(2, 0, pointer::END, 77)?;
     /// store.rename(2, 0, "a")?;
     /// store.close_private(2, 0)?;
     /// let mut image = vec![0; dorrivand::image_length()];
@@ -69,10 +76,46 @@ impl Store<'_> {
     /// assert_eq!(store.open_read(2, 0, "a"), Err(Refusal::UnknownName));
     /// store.load(&image)?;
     /// store.open_read(2, 0, "a")?;
-    /// assert_eq!(store.next(2, 0, 2), Ok(77));
+    /// assert_eq!(store.next(2, 0, pointer::WORK), Ok(77));
     ///
     /// image[0] = 0;
     /// assert_eq!(store.load(&image), Err(Refusal::UnsoundImage));
+    /// # Ok::<(), Refusal>(())
+    /// ```
+    ///
+    /// Over cells of another moment the load is done all the same, and a file reads what its segments hold by now:
+    ///
+    /// ```
+    /// use dorrivand::{pointer, Refusal, Species, Store};
+    ///
+    /// fn make(store: &mut Store, user: u32, name: &str, element: u32) -> Result<(), Refusal> {
+    ///     store.open_new(user, 0, Species::Bits32)?;
+    ///     store.write(user, 0, pointer::END, element)?;
+    ///     store.rename(user, 0, name)?;
+    ///     store.close_private(user, 0)
+    /// }
+    ///
+    /// let mut store = Store::with_segments(4)?;
+    /// make(&mut store, 2, "lift 7", 301)?;
+    /// let mut image = vec![0; dorrivand::image_length()];
+    /// store.save(&mut image)?;
+    /// let cells = store.cells().to_vec();
+    ///
+    /// // Lift 7 is deleted, and a neighbour's private file takes its segment.
+    /// store.open_work(2, 0, "lift 7")?;
+    /// store.rename(2, 0, "")?;
+    /// store.close_private(2, 0)?;
+    /// make(&mut store, 3, "secret", 99)?;
+    ///
+    /// store.load(&image)?;
+    /// store.open_read(2, 0, "lift 7")?;
+    /// assert_eq!(store.next(2, 0, pointer::WORK), Ok(99));
+    ///
+    /// // With the cells of the moment of the save it is right.
+    /// store.cells_mut().copy_from_slice(&cells);
+    /// store.load(&image)?;
+    /// store.open_read(2, 0, "lift 7")?;
+    /// assert_eq!(store.next(2, 0, pointer::WORK), Ok(301));
     /// # Ok::<(), Refusal>(())
     /// ```
     pub fn load(&mut self, image: &[u32]) -> Result<(), Refusal> {

@@ -1,10 +1,10 @@
 //! Reads a history from standard input and writes the answers to standard output.
 
 use filing::text::answering::Desk;
-use std::io::{self, BufRead, BufWriter, Write};
+use std::io::{self, BufRead, BufReader, BufWriter, Write};
 
 fn main() -> io::Result<()> {
-    let mut input = io::stdin().lock();
+    let mut input = BufReader::new(io::stdin().lock());
     let mut output = BufWriter::new(io::stdout().lock());
     let mut desk = Desk::new();
     let mut line = Vec::new();
@@ -15,6 +15,10 @@ fn main() -> io::Result<()> {
         }
         if let Some(answer) = desk.answer(&line) {
             writeln!(output, "{}", answer)?;
+        }
+        // Who types the lines by hand waits for an answer before the next one.
+        if input.buffer().is_empty() {
+            output.flush()?;
         }
         line.clear();
     }

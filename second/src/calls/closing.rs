@@ -1,7 +1,8 @@
 //! Renaming, closing and abandoning.
 
-use crate::model::catalogue::{Catalogue, Record};
+use crate::model::catalogue::Catalogue;
 use crate::model::opening::Opening;
+use crate::model::record::Record;
 use crate::rules::name::Name;
 use crate::rules::refusal::{Answer, Refusal};
 

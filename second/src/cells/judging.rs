@@ -1,9 +1,10 @@
 //! "Sound tables": whether the records and openings agree with each other, and the catalogue that they say.
 
 use super::outline::{FileOutline, OpeningOutline, RecordOutline, Unsound};
-use crate::model::catalogue::{Catalogue, Record};
+use crate::model::catalogue::Catalogue;
 use crate::model::file::File;
 use crate::model::opening::Opening;
+use crate::model::record::Record;
 use crate::model::store::Store;
 use crate::rules::sizes::{ENTRIES, MOST_SEGMENTS};
 

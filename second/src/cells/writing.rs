@@ -1,9 +1,10 @@
 //! From what is kept to the numbers of records and openings, and to the tables' cells.
 
 use super::fields::{self, opening as of_opening, record as of_record, TABLES_LENGTH};
-use crate::model::catalogue::{Catalogue, Record};
+use crate::model::catalogue::Catalogue;
 use crate::model::file::File;
 use crate::model::opening::Opening;
+use crate::model::record::Record;
 
 /// "Unused list places are zero; an unused record is all zero."
 pub fn record_numbers(record: Option<&Record>) -> [u32; of_record::COUNT] {

@@ -2,19 +2,11 @@
 
 use super::file::File;
 use super::opening::Opening;
+use super::record::Record;
 use super::store::Segment;
-use crate::rules::name::Name;
 use crate::rules::refusal::Refusal;
 use crate::rules::sizes::{ENTRIES, PLACES, USERS};
 use std::collections::BTreeSet;
-
-#[derive(Clone, PartialEq, Eq, Debug)]
-pub struct Record {
-    pub name: Name,
-    pub owner: usize,
-    pub private: bool,
-    pub file: File,
-}
 
 #[derive(Clone, PartialEq, Eq, Debug)]
 pub struct Catalogue {

@@ -4,4 +4,5 @@ pub mod buffer;
 pub mod catalogue;
 pub mod file;
 pub mod opening;
+pub mod record;
 pub mod store;

@@ -1,7 +1,7 @@
 //! An opening of a file, and its pointers.
 
-use super::catalogue::Record;
 use super::file::File;
+use super::record::Record;
 use crate::rules::name::Name;
 use crate::rules::sizes::{FIRST_OWN, OWN_POINTERS};
 use crate::rules::species::Species;

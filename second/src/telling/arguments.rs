@@ -3,7 +3,7 @@
 use super::mode::Mode;
 use super::teller::Teller;
 use crate::cells::fields::all_entries;
-use crate::model::catalogue::Record;
+use crate::model::record::Record;
 use crate::rules::name::Name;
 
 /// Byte strings, some of which make one name, some none.

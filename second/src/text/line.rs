@@ -6,6 +6,12 @@ use crate::rules::name::Name;
 
 pub const IMAGES: usize = 4;
 
+/// What `help`, which is a bad line, is told.
+const HELP: &str = "fresh; save I; load I; free U; new U E S; work U E NAME; read U E NAME; rename U E NAME; close U E; \
+    public U E; abandon U E; reset U E; pointer U E P; delete U E P; write U E P X; next U E P; prev U E P; species U E; \
+    claim U E; permit U E; begin U E; end U E; symbol U E K; value U E P; lend BUFFER N; peek BUFFER I; \
+    poke BUFFER I V; sum BUFFER";
+
 #[derive(Clone, Copy, PartialEq, Eq, Debug)]
 pub enum BufferName {
     Store,
@@ -84,7 +90,8 @@ impl Line {
                 let [buffer] = words(rest)?;
                 Line::Sum(buffer_name(buffer)?)
             }
-            _ => return Err(BadLine("an unknown word")),
+            b"help" => return Err(BadLine(HELP)),
+            _ => return Err(BadLine("an unknown word; help lists the lines")),
         })
     }
 }

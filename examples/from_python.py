@@ -1,0 +1,53 @@
+"""Dorrivand from Python. What is called is a shared object, made in the repository by
+
+    gcc -shared -fPIC -Iinclude examples/words.c -Wl,--whole-archive target/staticlib/libdoor.a -Wl,--no-whole-archive \\
+        -o target/libdorrivand.so
+    python3 examples/from_python.py target/libdorrivand.so
+"""
+import ctypes
+import sys
+
+Cell, Cells, Length = ctypes.c_uint32, ctypes.POINTER(ctypes.c_uint32), ctypes.c_size_t
+END, WORK, BITS_16 = 1, 2, 4
+
+library = ctypes.CDLL(sys.argv[1])
+library.words.argtypes, library.words.restype = [Cell], ctypes.c_char_p
+library.dorrivand_tables_length.restype = Length
+store, tables = (Cell * 1024)(), (Cell * library.dorrivand_tables_length())()
+
+
+class Refused(Exception):
+    pass
+
+
+def call(word, *arguments):
+    """The number with which a call is done. A name is bytes, all else are numbers."""
+    values = [(Cells, store), (Length, len(store)), (Cells, tables), (Length, len(tables))]
+    for argument in arguments:
+        is_name = isinstance(argument, bytes)
+        values += [(ctypes.c_char_p, argument), (Length, len(argument))] if is_name else [(Cell, argument)]
+    function = getattr(library, "dorrivand_" + word)
+    function.argtypes, function.restype = [kind for kind, _ in values], ctypes.c_uint64
+    answer = function(*[value for _, value in values])
+    if answer >> 32:
+        raise Refused(library.words(answer & 0xFFFFFFFF).decode())
+    return answer
+
+
+call("fresh")
+call("new", 2, 0, BITS_16)
+for fault in 301, 417:
+    call("write", 2, 0, END, fault)
+call("rename", 2, 0, b"lift 7")
+call("close", 2, 0)
+call("read", 2, 0, b"lift 7")
+try:
+    while True:
+        print(call("next", 2, 0, WORK))
+except Refused as why:
+    print("refused:", why)
+try:
+    call("read", 5, 0, b"lift 7")
+except Refused as why:
+    print("refused:", why)
+print("free segments:", call("free", 2))
