@@ -11,7 +11,7 @@ use Rattle.combine.specs.Outcome.{settle}
 use Rattle.names.specs.Names.{symbolsOf, nameOf, scratchName, isScratch}
 use Rattle.packing.specs.Packing.{field, putField, takeBits, putBits, cellsOf, sum, packed}
 use Rattle.placing.specs.Placing.{stretchOf, offsetOf, cellOf, bitOf, heldOf, claimOf, slotOf}
-use Rattle.placing.specs.Sizes.{widthOf, elementsOf}
+use Rattle.placing.specs.Sizes.{widthOf, elementsOf, tablesLength}
 use Rattle.store.specs.Store.{elementAt, putElement, zeroed, copied, segmentOf}
 use Rattle.rules.specs.Calls.{Request}
 use Rattle.rules.specs.Access.{writeRule, nextRule, prevRule, newPointerRule, deletePointerRule, valueRule, renameRule}
@@ -46,7 +46,7 @@ answersIn cells rs = answersTo rs (freshState (replicate cells 0))
 -- the image of the tables that a fresh start makes over so many cells, and the requests' record at place 0
 unfoldable pub freshCells : ℕ → List ℕ
 unfolding freshOut startGate settle refuse_when_else_ freshTables
-freshCells cells = freshOut (replicate cells 0) (replicate 4993 7) .after .tables
+freshCells cells = freshOut (replicate cells 0) (replicate tablesLength 7) .after .tables
 
 unfoldable pub imageIn : ℕ → List Request → List ℕ
 unfolding finalOf freshCells tab part joined cellsOf sum packed headWidths recordWidths headImage recordImage imageOf recordCells putRecord unusedRecord inPlaces asRecord
