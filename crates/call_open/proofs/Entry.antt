@@ -12,7 +12,7 @@ use Rattle.answers.specs.declared.Refusal.the-variants.{Open}
 use Rattle.answers.specs.declared.Answer.the-variants.{Refused}
 use Rattle.placing.specs.Sizes.{entryOf}
 use Rattle.rules.specs.Calls.{Way, opens}
-use Rattle.tables.specs.Layout.{openingAt}
+use Rattle.tables.specs.Layout.{openingAt, openingBase}
 use Rattle.tables.specs.Fields.{isOpen}
 use Rattle.cells.specs.Outcomes.{outcome, requestOut}
 use Rattle.cells.specs.laws.Entered.{request-open}
@@ -31,14 +31,14 @@ module _ (s t : List ℕ) (u e : ℕ) (g : Gate) (eg : g ≡ passOf (length s) t
     pub here : Passed (length s) t u e i
     here = passes s t u e g eg i at
 
-    pub already-open : getD t (3201 + 56 * i) 0 ≡ 1 → AtVacant s t u e (No Open)
+    pub already-open : getD t (openingBase i) 0 ≡ 1 → AtVacant s t u e (No Open)
     unfolding settle
     already-open o w =
         let p = here in
         let there : isOpen (openingAt t (entryOf u e)) ≡ true = ap (λ (k : ℕ). isOpen (openingAt t k)) (sym (p .which)) ∙ eq-eqb (openingAt t i .opened) 1 (opened-cell t i ∙ o) in
         sym (request-open s t u e (p .sound) (p .user) (p .entry) (opens w) there)
 
-    pub is-vacant : getD t (3201 + 56 * i) 0 ≢ 1 → Vacant s t u e i
+    pub is-vacant : getD t (openingBase i) 0 ≢ 1 → Vacant s t u e i
     is-vacant d = record { passed = here; closed = ne-eqb (openingAt t i .opened) 1 (λ o. d (sym (opened-cell t i) ∙ o)) }
 
 -- ---- what the gate that the code has in hand says

@@ -11,8 +11,9 @@ use borrow.Author.Tests.{eq-eqb, ne-eqb}
 use Rattle.combine.specs.laws.Below.{bad-left}
 use Rattle.combine.specs.Lists.{part, same}
 use Rattle.combine.specs.laws.Parts.{getD-part}
+use Rattle.placing.specs.Sizes.{openingLength}
 use Rattle.rules.specs.Headings.{Heading}
-use Rattle.tables.specs.Layout.{recordOf, recordAt, openingOf, openingAt}
+use Rattle.tables.specs.Layout.{recordOf, recordAt, openingOf, openingAt, openingBase}
 use Rattle.tables.specs.Fields.{isUsed}
 use Rattle.tables.specs.Handles.{headingOf}
 use Rattle.catalogue_laws.specs.Places.{usedWith, another}
@@ -105,9 +106,9 @@ module _ (w : Bool) (p : ℕ) (row : List ℕ) where
       pub from-reading : w ≡ false → eqb (getD row 2 0) 1 ≡ keepsOff w p (openingOf row)
       from-reading e = sym (by-permit ∙ ap (λ (b : Bool). b || eqb (getD row 2 0) 1) e)
 
-pub at-entry : (w : Bool) (p : ℕ) (t : List ℕ) (i : ℕ) → keepsOff w p (openingOf (lentPart t (3201 + 56 * i) (3201 + 56 * i + 56))) ≡ keepsOff w p (openingAt t i)
+pub at-entry : (w : Bool) (p : ℕ) (t : List ℕ) (i : ℕ) → keepsOff w p (openingOf (lentPart t (openingBase i) (openingBase i + openingLength))) ≡ keepsOff w p (openingAt t i)
 unfolding openingAt
-at-entry w p t i = ap (λ (row : List ℕ). keepsOff w p (openingOf row)) (lent-part t (3201 + 56 * i) 56)
+at-entry w p t i = ap (λ (row : List ℕ). keepsOff w p (openingOf row)) (lent-part t (openingBase i) openingLength)
 
 -- ---- the first cell of a record
 

@@ -12,6 +12,7 @@ use borrow.Author.Tests.{eq-eqb, ne-eqb, lt-ltb, le-ltb}
 use Rattle.combine.specs.laws.Parts.{getD-part}
 use Rattle.answers.specs.declared.Refusal.{Refusal}
 use Rattle.answers.specs.declared.Refusal.the-variants.{Entry}
+use Rattle.placing.specs.Sizes.{entries, openingLength}
 use Rattle.tables.specs.Layout.{openingBase, openingOf, openingAt}
 use Rattle.tables.specs.Fields.{isOpen}
 use Rattle.tables.specs.laws.Sound.{ranged-of}
@@ -35,9 +36,9 @@ answered r b c e h = ap not (sym e) ∙ h
 pub ruleset ways = (stop, go-on, answered, lt-ltb, le-ltb)
 
 -- the first cell of an opening says that it is open
-opened-cell : (t : List ℕ) (i : ℕ) → openingAt t i .opened ≡ getD t (3201 + 56 * i) 0
+opened-cell : (t : List ℕ) (i : ℕ) → openingAt t i .opened ≡ getD t (openingBase i) 0
 unfolding openingAt openingOf
-opened-cell t i = getD-part t (openingBase i) 56 0 (omega arith) ∙ ap (λ (k : ℕ). getD t k 0) (add-zero (openingBase i))
+opened-cell t i = getD-part t (openingBase i) openingLength 0 (omega arith) ∙ ap (λ (k : ℕ). getD t k 0) (add-zero (openingBase i))
 
 module _ (cells : ℕ) (t : List ℕ) (u e : ℕ) (g : Gate) (eg : g ≡ passOf cells t u e) where
   pub reach-no : (why : Refusal) → g ≡ No why → No why ≡ reachOf cells t u e
@@ -45,32 +46,32 @@ module _ (cells : ℕ) (t : List ℕ) (u e : ℕ) (g : Gate) (eg : g ≡ passOf 
   reach-no why at = sym (ap (opened t) (sym eg ∙ at))
 
   module _ (i : ℕ) (at : g ≡ At i) where
-    pub opened-within : 3201 + 56 * i < length t
+    pub opened-within : openingBase i < length t
     opened-within =
         let p = pass-at cells t u e i (sym eg ∙ at) in
         let l = ranged-of cells t (p .sound) .0 in
         omega arith
 
-    small : i < 32
+    small : i < entries
     small = let p = pass-at cells t u e i (sym eg ∙ at) in omega arith
 
-    pub opened-mul : Fits w64 (56 * i)
+    pub opened-mul : Fits w64 (openingLength * i)
     opened-mul = record { fits = omega (arith, small) }
 
-    pub opened-add : Fits w64 (3201 + 56 * i)
+    pub opened-add : Fits w64 (openingBase i)
     opened-add = record { fits = omega (arith, small) }
 
-    pub opened-scaled : Fits w64 ((3201 + 56 * i) * 4)
+    pub opened-scaled : Fits w64 ((openingBase i) * 4)
     opened-scaled = record { fits = omega (arith, small) }
 
     reach-is : opened t (At i) ≡ reachOf cells t u e
     unfolding reachOf
     reach-is = sym (ap (opened t) (sym eg ∙ at))
 
-    pub reach-closed : (getD t (3201 + 56 * i) 0 ≡ 1 → ⊥) → No Entry ≡ reachOf cells t u e
+    pub reach-closed : (getD t (openingBase i) 0 ≡ 1 → ⊥) → No Entry ≡ reachOf cells t u e
     reach-closed d = stop (not (isOpen (openingAt t i))) Entry (At i) (ap not (ne-eqb (openingAt t i .opened) 1 (λ q. d (sym (opened-cell t i) ∙ q)))) ∙ reach-is
 
-    pub reach-open : getD t (3201 + 56 * i) 0 ≡ 1 → At i ≡ reachOf cells t u e
+    pub reach-open : getD t (openingBase i) 0 ≡ 1 → At i ≡ reachOf cells t u e
     reach-open q = go-on (not (isOpen (openingAt t i))) Entry (At i) (At i) (ap not (eq-eqb (openingAt t i .opened) 1 (opened-cell t i ∙ q))) refl ∙ reach-is
 
 pub ruleset reaches = (reach-no, opened-within, opened-mul, opened-add, opened-scaled, reach-closed, reach-open)

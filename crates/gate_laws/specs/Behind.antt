@@ -7,7 +7,7 @@ use native.Mathlib.Nat.{add-zero}
 use native.Mathlib.Omega.{arith}
 use lib.ListN.{length, getD}
 use Rattle.combine.specs.laws.Parts.{getD-part}
-use Rattle.placing.specs.Sizes.{entries, entryOf, tablesLength}
+use Rattle.placing.specs.Sizes.{entries, entryOf, tablesLength, openingLength}
 use Rattle.tables.specs.Layout.{openingBase, openingOf, openingAt}
 use Rattle.tables.specs.Fields.{isOpen}
 use Rattle.tables.specs.laws.OpeningFacts.{SoundOpening, opening-facts}
@@ -15,9 +15,9 @@ use Rattle.tables.specs.laws.Sound.{ranged-of}
 use Rattle.gate.specs.Passed.{Passed, Reached}
 
 -- the first cell of an opening
-pub opened-cell : (t : List ℕ) (i : ℕ) → openingAt t i .opened ≡ getD t (3201 + 56 * i) 0
+pub opened-cell : (t : List ℕ) (i : ℕ) → openingAt t i .opened ≡ getD t (openingBase i) 0
 unfolding openingAt openingOf
-opened-cell t i = getD-part t (openingBase i) 56 0 (omega arith) ∙ ap (λ (k : ℕ). getD t k 0) (add-zero (openingBase i))
+opened-cell t i = getD-part t (openingBase i) openingLength 0 (omega arith) ∙ ap (λ (k : ℕ). getD t k 0) (add-zero (openingBase i))
 
 module _ {cells : ℕ} {t : List ℕ} {u e i : ℕ} where
   pub passed-long : Passed cells t u e i → length t ≡ tablesLength

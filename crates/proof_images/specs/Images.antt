@@ -9,8 +9,8 @@ use Rattle.combine.specs.Lists.{part, joined, tab}
 use Rattle.combine.specs.laws.Lists.{tab-cong}
 use Rattle.combine.specs.laws.Parts.{length-part}
 use Rattle.packing.specs.Packing.{packed, unpacked, rowOf, cellsOf}
-use Rattle.placing.specs.Sizes.{places, tablesLength}
-use Rattle.tables.specs.Layout.{recordBase, segmentsIn}
+use Rattle.placing.specs.Sizes.{places, tablesLength, recordLength, recordsStart, openingsStart}
+use Rattle.tables.specs.Layout.{recordBase, segmentsIn, noneOpen}
 use Rattle.image.specs.Image.{form1, imageLength, headWidths, recordWidths, headImage, recordImage, imageOf, headField, recordFrom, tablesFrom}
 use Rattle.packing_rows.specs.Cells.{Cells, part-cells}
 use Rattle.packing_rows.specs.Pack.{unpacked-length}
@@ -70,20 +70,20 @@ module _ (t : List ℕ) where
       (λ j. part (h ++ sym (append-nil rs) j) (sym (head-length (segmentsIn t)) j + 14 * p) 14)
       ∙ piece-at (recordImage form1 t) 14 (record-image-length t) h [] places p lp
 
-  module _ (long : length t ≡ tablesLength) (few : segmentsIn t < 2048) (fits : (p : ℕ) → p < places → Fits (part t (recordBase p) 50)) where
-    record-again : (p : ℕ) → p < places → recordFrom form1 (imageOf form1 t) p ≡ part t (recordBase p) 50
+  module _ (long : length t ≡ tablesLength) (few : segmentsIn t < 2048) (fits : (p : ℕ) → p < places → Fits (part t (recordBase p) recordLength)) where
+    record-again : (p : ℕ) → p < places → recordFrom form1 (imageOf form1 t) p ≡ part t (recordBase p) recordLength
     unfolding recordFrom recordImage
     record-again p lp =
-        let l : length (part t (recordBase p) 50) ≡ 50 = length-part t (recordBase p) 50 (omega arith) in
+        let l : length (part t (recordBase p) recordLength) ≡ recordLength = length-part t (recordBase p) recordLength (omega arith) in
         ap (λ (x : List ℕ). unpacked recordWidths (rowOf x)) (image-piece p lp)
-        ∙ packed-back recordWidths 14 record-sum (part t (recordBase p) 50) (l ∙ sym record-many) (λ k h. fits p lp k (omega (arith, h, record-many)))
+        ∙ packed-back recordWidths 14 record-sum (part t (recordBase p) recordLength) (l ∙ sym record-many) (λ k h. fits p lp k (omega (arith, h, record-many)))
 
     pub tables-again : tablesFrom form1 (imageOf form1 t) ≡ closed t
     unfolding tablesFrom closed
     tables-again =
-        let rs : joined (tab places (recordFrom form1 (imageOf form1 t))) ≡ part t 1 3200 =
-        ap joined (tab-cong places (λ p. part t (recordBase p) 50) (recordFrom form1 (imageOf form1 t)) record-again) ∙ pieces-part t 1 50 places in
-        (λ j. image-field few 1 j ∷ (rs j ++ replicate 1792 0)) ∙ ap (λ (x : List ℕ). x ++ replicate 1792 0) (first-more t 3200 (omega arith))
+        let rs : joined (tab places (recordFrom form1 (imageOf form1 t))) ≡ part t recordsStart (openingsStart - 1) =
+        ap joined (tab-cong places (λ p. part t (recordBase p) recordLength) (recordFrom form1 (imageOf form1 t)) record-again) ∙ pieces-part t recordsStart recordLength places in
+        (λ j. noneOpen (image-field few 1 j ∷ rs j)) ∙ ap noneOpen (first-more t (openingsStart - 1) (omega arith))
 
 -- ---- the tables of an image
 
@@ -91,7 +91,7 @@ module _ (img : List ℕ) (cells : Cells img) (long : length img ≡ imageLength
   piece-again : (p : ℕ) → p < places → recordImage form1 (tablesFrom form1 img) p ≡ part img (1 + 14 * p) 14
   unfolding recordImage tablesFrom recordFrom
   piece-again p lp =
-      ap (λ (x : List ℕ). cellsOf 14 (packed recordWidths x)) (piece-at (recordFrom form1 img) 50 (record-from-length img) (headField img 1 ∷ []) (replicate 1792 0) places p lp)
+      ap (λ (x : List ℕ). cellsOf 14 (packed recordWidths x)) (piece-at (recordFrom form1 img) 50 (record-from-length img) (headField img 1 ∷ []) (replicate (tablesLength - openingsStart) 0) places p lp)
       ∙ cells-back recordWidths 14 record-sum (part img (1 + 14 * p) 14) (part-cells img (1 + 14 * p) 14 cells) (length-part img (1 + 14 * p) 14 (omega arith))
 
   head-again : headField img 0 ≡ 1 → headField img 2 ≡ 0 → headImage form1 (headField img 1) ≡ part img 0 1
@@ -105,6 +105,6 @@ module _ (img : List ℕ) (cells : Cells img) (long : length img ≡ imageLength
   unfolding imageOf tablesFrom part
   image-again form zeros =
       let t : List ℕ = tablesFrom form1 img in
-      let rs : joined (tab places (recordImage form1 t)) ≡ part img 1 896 =
+      let rs : joined (tab places (recordImage form1 t)) ≡ part img 1 (imageLength form1 - 1) =
       ap joined (tab-cong places (λ p. part img (1 + 14 * p) 14) (recordImage form1 t) piece-again) ∙ pieces-part img 1 14 places in
-      (λ j. head-again form zeros j ++ rs j) ∙ sym (take-add 1 896 img) ∙ take-all 897 img (omega arith)
+      (λ j. head-again form zeros j ++ rs j) ∙ sym (take-add 1 (imageLength form1 - 1) img) ∙ take-all (imageLength form1) img (omega arith)

@@ -11,10 +11,10 @@ use lib.ListN.{getD}
 use Rattle.combine.specs.laws.Parts.{getD-part}
 use Rattle.combine.specs.Rows.{allOf}
 use Rattle.combine.specs.laws.Rows.{one-bad, all-last}
-use Rattle.placing.specs.Sizes.{places}
+use Rattle.placing.specs.Sizes.{places, openingLength, openingsStart}
 use Rattle.tables.specs.declared.Record.{Record}
 use Rattle.tables.specs.declared.Opening.{Opening}
-use Rattle.tables.specs.Layout.{recordOf, recordAt, openingOf, openingAt}
+use Rattle.tables.specs.Layout.{recordOf, recordAt, openingOf, openingAt, openingBase}
 use Rattle.tables.specs.Fields.{recordFor}
 use Rattle.tables.specs.Openings.{linkb, readb, workb, besideRecordb}
 use Rattle.sound_extents.specs.Slices.{sliced, sliced-part}
@@ -26,11 +26,11 @@ use Rattle.sound_links.proofs.Choices.{or-first, or-second}
 pub own-entry : (t : List ℕ) (i p j : ℕ) → j ≡ i → true ≡ elsewhereb t i p j
 own-entry t i p j e = or-first _ _ (eq-eqb j i e)
 
-pub other-entry : (t : List ℕ) (i p j : ℕ) → j ≢ i → not (eqb (getD t (3202 + 56 * j) 0) p) ≡ elsewhereb t i p j
+pub other-entry : (t : List ℕ) (i p j : ℕ) → j ≢ i → not (eqb (getD t (openingsStart + 1 + openingLength * j) 0) p) ≡ elsewhereb t i p j
 unfolding openingAt openingOf
 other-entry t i p j d =
-    let e : 3202 + 56 * j ≡ 3201 + 56 * j + 1 = omega arith in
-    ap (λ (x : ℕ). not (eqb x p)) (ap (λ (k : ℕ). getD t k 0) e ∙ sym (getD-part t (3201 + 56 * j) 56 1 (omega arith))) ∙ or-second _ _ (ne-eqb j i d)
+    let e : openingsStart + 1 + openingLength * j ≡ openingBase j + 1 = omega arith in
+    ap (λ (x : ℕ). not (eqb x p)) (ap (λ (k : ℕ). getD t k 0) e ∙ sym (getD-part t (openingBase j) openingLength 1 (omega arith))) ∙ or-second _ _ (ne-eqb j i d)
 
 -- ---- the record
 

@@ -9,20 +9,20 @@ use lib.Dec.{eqb}
 use lib.ListN.{length, getD}
 use Rattle.combine.specs.Lists.{part}
 use Rattle.combine.specs.laws.Parts.{length-part}
-use Rattle.placing.specs.Sizes.{entries, tablesLength}
+use Rattle.placing.specs.Sizes.{entries, tablesLength, openingLength}
 use Rattle.tables.specs.declared.Opening.{Opening}
-use Rattle.tables.specs.Layout.{openingOf, openingAt}
+use Rattle.tables.specs.Layout.{openingOf, openingAt, openingBase}
 use Rattle.tables.specs.Openings.{closedb, openb, openingb}
 use Rattle.sound_extents.specs.Slices.{sliced, sliced-part, allCells}
 use Rattle.sound_openings.specs.Closed.{closed-row}
 
 -- the row, as the code takes it
 abbrev row : List ℕ → ℕ → List ℕ
-row t i = sliced t (3201 + 56 * i) (3201 + 56 * i + 56)
+row t i = sliced t (openingBase i) (openingBase i + openingLength)
 
 module _ (t : List ℕ) (i : ℕ) where
-  row-part : row t i ≡ part t (3201 + 56 * i) 56
-  row-part = sliced-part t (3201 + 56 * i) (3201 + 56 * i + 56) 56 refl
+  row-part : row t i ≡ part t (openingBase i) openingLength
+  row-part = sliced-part t (openingBase i) (openingBase i + openingLength) openingLength refl
 
   row-opening : openingOf (row t i) ≡ openingAt t i
   unfolding openingAt
@@ -35,7 +35,7 @@ module _ (t : List ℕ) (i : ℕ) where
   pub closed-entry : length t ≡ tablesLength → i < entries → getD (row t i) 0 0 ≡ 0 → allCells (λ x. eqb x 0) (row t i) ≡ openingb t i
   unfolding openingb
   closed-entry l h e =
-      let n : length (row t i) ≡ 56 = ap length row-part ∙ length-part t (3201 + 56 * i) 56 (omega arith) in
+      let n : length (row t i) ≡ openingLength = ap length row-part ∙ length-part t (openingBase i) openingLength (omega arith) in
       closed-row (row t i) e n ∙ ap closedb row-opening ∙ simp (eq-eqb _ _ (sym row-opened ∙ e))
 
   pub open-entry : getD (row t i) 0 0 ≢ 0 → openb t i (openingOf (row t i)) ≡ openingb t i
