@@ -1,10 +1,10 @@
--- `clashes::short` meets its contract. Assumes nothing.
+-- `sound_keys::short` meets its contract. Assumes nothing.
 use Prim.Native.Nat.{ℕ, _+_, _*_, _/_, _%_}
 use mathlib.Core.Path.{ap}
 use borrow.Author.Needs.{needs}
-use Rattle.sound_names.specs.Keys.{shortOf}
-use Rattle.sound_names.proofs.short.Statement.{statement}
-use Rattle.sound_names.proofs.short.Tie as tie
+use Rattle.sound_keys.specs.Keys.{shortOf}
+use Rattle.sound_keys.proofs.short.Statement.{statement}
+use Rattle.sound_keys.proofs.short.Tie as tie
 
 mul-sum : tie.Need-mul-sum
 mul-sum c = search needs

@@ -1,8 +1,8 @@
--- `clashes::is_new` meets its contract. Assumes nothing.
+-- `sound_keys::is_new` meets its contract. Assumes nothing.
 use borrow.Author.Needs.{needs}
-use Rattle.sound_names.proofs.Shorts.{not-listed}
-use Rattle.sound_names.proofs.is_new.Statement.{statement}
-use Rattle.sound_names.proofs.is_new.Tie as tie
+use Rattle.sound_keys.proofs.Listed.{not-listed}
+use Rattle.sound_keys.proofs.is_new.Statement.{statement}
+use Rattle.sound_keys.proofs.is_new.Tie as tie
 
 sub-lists : tie.Need-sub-lists
 sub-lists c = search needs

@@ -1,9 +1,9 @@
--- `clashes::key` meets its contract. Assumes nothing.
+-- `sound_keys::key` meets its contract. Assumes nothing.
 use denote.Ref.{now}
 use borrow.Author.Needs.{needs}
-use Rattle.sound_names.proofs.Rows.{no-key, six-symbols}
-use Rattle.sound_names.proofs.key.Statement.{statement}
-use Rattle.sound_names.proofs.key.Tie as tie
+use Rattle.sound_keys.proofs.Rows.{no-key, six-symbols}
+use Rattle.sound_keys.proofs.key.Statement.{statement}
+use Rattle.sound_keys.proofs.key.Tie as tie
 
 shared-slice-read-if1 : tie.Need-shared-slice-read-if1
 shared-slice-read-if1 c = search needs

@@ -8,7 +8,7 @@ use native.Mathlib.Omega.{arith}
 use lib.ListN.{getD}
 use Rattle.combine.specs.Lists.{part}
 use Rattle.combine.specs.laws.Parts.{getD-part}
-use Rattle.sound_names.specs.Keys.{digits}
+use Rattle.sound_keys.specs.Keys.{digits}
 
 pub digits-positive : (l : List ℕ) (at n : ℕ) → 1 ≤ digits l at n
 unfolding digits

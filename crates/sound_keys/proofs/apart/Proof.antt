@@ -1,12 +1,12 @@
--- `clashes::apart` meets its contract. Assumes nothing.
+-- `sound_keys::apart` meets its contract. Assumes nothing.
 use mathlib.Core.Path.{sym, ap, _∙_}
 use mathlib.Core.Bool.{not}
 use borrow.Author.Tests.{le-leb, lt-leb, eq-eqb, ne-eqb}
 use borrow.Author.Needs.{needs}
 use Rattle.combine.specs.laws.Below.{bad-left, both, or-left, was-true, was-false}
-use Rattle.sound_names.specs.Keys.{apartb}
-use Rattle.sound_names.proofs.apart.Statement.{statement}
-use Rattle.sound_names.proofs.apart.Tie as tie
+use Rattle.sound_keys.specs.Keys.{apartb}
+use Rattle.sound_keys.proofs.apart.Statement.{statement}
+use Rattle.sound_keys.proofs.apart.Tie as tie
 
 returns : tie.Need-returns
 unfolding apartb

@@ -1,10 +1,10 @@
--- `clashes::public_short` meets its contract. Assumes nothing.
+-- `sound_keys::public_short` meets its contract. Assumes nothing.
 use mathlib.Core.Path.{sym, _∙_}
 use borrow.Author.Tests.{eq-eqb, ne-eqb}
 use borrow.Author.Needs.{needs}
-use Rattle.sound_names.specs.Keys.{publicOf}
-use Rattle.sound_names.proofs.public_short.Statement.{statement}
-use Rattle.sound_names.proofs.public_short.Tie as tie
+use Rattle.sound_keys.specs.Keys.{publicOf}
+use Rattle.sound_keys.proofs.public_short.Statement.{statement}
+use Rattle.sound_keys.proofs.public_short.Tie as tie
 
 short-requires : tie.Need-short-requires
 short-requires c κs = search needs
