@@ -1,8 +1,8 @@
--- `closing_calls::unused_record` meets its contract. Assumes nothing.
-use Rattle.call_close.proofs.Values.{unused-made}
+-- `opening_values::unused_record` meets its contract. Assumes nothing.
+use Rattle.opening_values.proofs.Values.{unused-made}
 use borrow.Author.Needs.{needs}
-use Rattle.call_close.proofs.unused_record.Statement.{statement}
-use Rattle.call_close.proofs.unused_record.Tie as tie
+use Rattle.opening_values.proofs.unused_record.Statement.{statement}
+use Rattle.opening_values.proofs.unused_record.Tie as tie
 
 of-requires : tie.Need-of-requires
 of-requires c κs = search needs

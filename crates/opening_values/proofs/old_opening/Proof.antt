@@ -1,8 +1,8 @@
--- `opening_calls::old_opening` meets its contract. Assumes nothing.
-use Rattle.call_open.proofs.Values.{old-made}
+-- `opening_values::old_opening` meets its contract. Assumes nothing.
+use Rattle.opening_values.proofs.Values.{old-made}
 use borrow.Author.Needs.{needs}
-use Rattle.call_open.proofs.old_opening.Statement.{statement}
-use Rattle.call_open.proofs.old_opening.Tie as tie
+use Rattle.opening_values.proofs.old_opening.Statement.{statement}
+use Rattle.opening_values.proofs.old_opening.Tie as tie
 
 of-requires : tie.Need-of-requires
 of-requires c κs = search needs

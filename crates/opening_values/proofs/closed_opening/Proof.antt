@@ -1,8 +1,8 @@
--- `closing_calls::closed_opening` meets its contract. Assumes nothing.
-use Rattle.call_close.proofs.Values.{closed-made}
+-- `opening_values::closed_opening` meets its contract. Assumes nothing.
+use Rattle.opening_values.proofs.Values.{closed-made}
 use borrow.Author.Needs.{needs}
-use Rattle.call_close.proofs.closed_opening.Statement.{statement}
-use Rattle.call_close.proofs.closed_opening.Tie as tie
+use Rattle.opening_values.proofs.closed_opening.Statement.{statement}
+use Rattle.opening_values.proofs.closed_opening.Tie as tie
 
 of-requires : tie.Need-of-requires
 of-requires c κs = search needs

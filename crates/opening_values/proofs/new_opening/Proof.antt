@@ -1,8 +1,8 @@
--- `opening_calls::new_opening` meets its contract. Assumes nothing.
-use Rattle.call_open.proofs.Values.{new-made}
+-- `opening_values::new_opening` meets its contract. Assumes nothing.
+use Rattle.opening_values.proofs.Values.{new-made}
 use borrow.Author.Needs.{needs}
-use Rattle.call_open.proofs.new_opening.Statement.{statement}
-use Rattle.call_open.proofs.new_opening.Tie as tie
+use Rattle.opening_values.proofs.new_opening.Statement.{statement}
+use Rattle.opening_values.proofs.new_opening.Tie as tie
 
 of-requires : tie.Need-of-requires
 of-requires c κs = search needs

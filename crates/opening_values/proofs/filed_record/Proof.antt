@@ -1,8 +1,8 @@
--- `closing_calls::filed_record` meets its contract. Assumes nothing.
-use Rattle.call_close.proofs.Values.{filed-made}
+-- `opening_values::filed_record` meets its contract. Assumes nothing.
+use Rattle.opening_values.proofs.Values.{filed-made}
 use borrow.Author.Needs.{needs}
-use Rattle.call_close.proofs.filed_record.Statement.{statement}
-use Rattle.call_close.proofs.filed_record.Tie as tie
+use Rattle.opening_values.proofs.filed_record.Statement.{statement}
+use Rattle.opening_values.proofs.filed_record.Tie as tie
 
 privacy-requires : tie.Need-privacy-requires
 privacy-requires c κs = search needs
