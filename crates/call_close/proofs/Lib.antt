@@ -1,4 +1,3 @@
--- What the code of `closing_calls` is. Assumes nothing.
-pub mod Values
+-- What the code of `call_close` is. Assumes nothing.
 pub mod Carried
 pub mod Left

@@ -2,15 +2,8 @@
 use answers::Answer;
 use close_choice::Plan;
 use gate::Gate;
-use placing::ALL_POINTERS;
-use placing::LIST_LENGTH;
-use placing::NAME_SYMBOLS;
-use placing::Position;
-use placing::Segment;
 use tables::Opening;
-use tables::Record;
 ghost use mathlib.Core.Path.{_≡_};
-ghost use mathlib.Core.Bool.{not};
 ghost use Prim.Native.Nat.{_≤_, _<_};
 ghost use lib.ListN.{length};
 ghost use Rattle.combine.specs.Verdict.{done};
@@ -18,10 +11,8 @@ ghost use Rattle.combine.specs.Outcome.{outcomeOf};
 ghost use Rattle.answers.specs.Said.{said};
 ghost use Rattle.placing.specs.Sizes.{entries, places, tablesLength};
 ghost use Rattle.rules.specs.Calls.{closes, abandons};
-ghost use Rattle.tables.specs.Layout.{putOpening, unusedRecord, closedOpening};
-ghost use Rattle.tables.specs.Handles.{bit};
+ghost use Rattle.tables.specs.Layout.{putOpening, closedOpening};
 ghost use Rattle.cells.specs.Outcomes.{outcome, requestOut};
-ghost use Rattle.cells.specs.laws.Catalogue.{filedRecord};
 ghost use Rattle.close_choice.specs.Planned.{planned, InRange};
 ghost use Rattle.call_close.specs.Leaving.{requested, leaving, carried};
 
@@ -31,75 +22,12 @@ enum Leaving {
     Abandons,
 }
 
-// "an unused record is all zero"
-fn unused_record() -> Record
-    ensures { λ r. ⌜ r ≡ unusedRecord ⌝ }
-{
-    let none = Position::of(0);
-    let no_segment = Segment::of(0);
-    Record {
-        used: 0,
-        name: [0; NAME_SYMBOLS],
-        owner: 0,
-        private: 0,
-        species: 0,
-        begin: none,
-        end: none,
-        segments: [no_segment; LIST_LENGTH],
-    }
-}
-
-// A closed entry is all zero too.
-fn closed_opening() -> Opening
-    ensures { λ r. ⌜ r ≡ closedOpening ⌝ }
-{
-    let none = Position::of(0);
-    let no_segment = Segment::of(0);
-    Opening {
-        opened: 0,
-        place: 0,
-        permit: 0,
-        species: 0,
-        pointers: [none; ALL_POINTERS],
-        name: [0; NAME_SYMBOLS],
-        segments: [no_segment; LIST_LENGTH],
-    }
-}
-
-fn privacy(public: bool) -> u32
-    ensures { λ r. ⌜ r ≡ bit (not public) ⌝ }
-{
-    if public {
-        return 0;
-    }
-    1
-}
-
-// "name, privacy, species, begin, end and segments become the record"
-fn filed_record(opening: Opening, user: u32, public: bool) -> Record
-    ensures { λ r. ⌜ r ≡ filedRecord public user opening ⌝ }
-{
-    let pointers = opening.pointers;
-    let name = opening.name;
-    let segments = opening.segments;
-    Record {
-        used: 1,
-        name,
-        owner: user,
-        private: privacy(public),
-        species: opening.species,
-        begin: pointers[0],
-        end: pointers[1],
-        segments,
-    }
-}
-
 // The opening ends.
 fn end(tables: &mut [u32], at: usize) -> Answer
     requires { ⌜ (length (now tables) ≡ tablesLength) × (at < entries) ⌝ }
     ensures { λ r. ⌜ outcomeOf (said r) (now (tables .exit)) ≡ outcomeOf (done 0) (putOpening (now (tables .entry)) at closedOpening) ⌝ }
 {
-    let closed = closed_opening();
+    let closed = opening_values::closed_opening();
     tables_openings::put_opening(tables, at, closed);
     Answer::Done(0)
 }
@@ -113,12 +41,12 @@ fn carry(tables: &mut [u32], at: usize, user: u32, opening: Opening, plan: Plan)
         Plan::No(why) => Answer::Refused(why),
         Plan::Ends => end(tables, at),
         Plan::Unfiles(place) => {
-            let filed = unused_record();
+            let filed = opening_values::unused_record();
             tables_records::put_record(tables, place, filed);
             end(tables, at)
         }
         Plan::Files(place, public) => {
-            let filed = filed_record(opening, user, public);
+            let filed = opening_values::filed_record(opening, user, public);
             tables_records::put_record(tables, place, filed);
             end(tables, at)
         }

@@ -1,4 +1,3 @@
--- What the code of `opening_calls` is. Assumes nothing.
-pub mod Values
+-- What the code of `call_open` is. Assumes nothing.
 pub mod Entry
 pub mod Opened

@@ -4,14 +4,8 @@ use answers::Refusal;
 use gate::Gate;
 use open_choice::Choice;
 use placing::GREATEST_SPECIES;
-use placing::LIST_LENGTH;
-use placing::NAME_SYMBOLS;
 use placing::OPENING_LENGTH;
 use placing::OPENINGS_START;
-use placing::Position;
-use placing::Segment;
-use tables::Opening;
-use tables::Record;
 ghost use mathlib.Core.Path.{_≡_};
 ghost use Prim.Native.Nat.{_<_};
 ghost use lib.ListN.{length};
@@ -19,9 +13,8 @@ ghost use Rattle.placing.specs.Sizes.{entries, places, tablesLength};
 ghost use Rattle.rules.specs.Calls.{opens};
 ghost use Rattle.rules.specs.Calls as way;
 ghost use Rattle.tables.specs.Layout.{recordAt, putOpening};
-ghost use Rattle.tables.specs.Handles.{bit};
 ghost use Rattle.cells.specs.Outcomes.{outcome, requestOut};
-ghost use Rattle.cells.specs.laws.Catalogue.{newOpening, oldOpening};
+ghost use Rattle.cells.specs.laws.Catalogue.{oldOpening};
 ghost use Rattle.call_open.specs.Vacant.{AtVacant};
 ghost use Rattle.call_open.specs.Ways.{wayOf};
 
@@ -42,24 +35,6 @@ fn vacant(store: &[u32], tables: &[u32], user: u32, entry: u32) -> Gate
     }
 }
 
-// "New makes an empty scratch file with work permit."; "It starts with b = e = 1."
-fn new_opening(species: u32) -> Opening
-    ensures { λ r. ⌜ r ≡ newOpening species ⌝ }
-{
-    let one = Position::of(1);
-    let none = Position::of(0);
-    let no_segment = Segment::of(0);
-    Opening {
-        opened: 1,
-        place: 0,
-        permit: 1,
-        species,
-        pointers: [one, one, one, none, none, none, none, none],
-        name: [63; NAME_SYMBOLS],
-        segments: [no_segment; LIST_LENGTH],
-    }
-}
-
 pub fn open_new(store: &[u32], tables: &mut [u32], user: u32, entry: u32, species: u32) -> Answer
     ensures { λ r. ⌜ outcome r (now (store .entry)) (now (tables .exit)) ≡ requestOut (opens (way.new species)) (now (store .entry)) (now (tables .entry)) user entry ⌝ }
 {
@@ -70,40 +45,10 @@ pub fn open_new(store: &[u32], tables: &mut [u32], user: u32, entry: u32, specie
             if GREATEST_SPECIES < species {
                 return Answer::Refused(Refusal::Species);
             }
-            let opening = new_opening(species);
+            let opening = opening_values::new_opening(species);
             tables_openings::put_opening(tables, at, opening);
             Answer::Done(0)
         }
-    }
-}
-
-fn permit(work: bool) -> u32
-    ensures { λ r. ⌜ r ≡ bit work ⌝ }
-{
-    if work {
-        return 1;
-    }
-    0
-}
-
-// "On opening, the work pointer stands at the begin value."
-fn old_opening(filed: Record, place: u32, work: bool) -> Opening
-    requires { ⌜ place < places ⌝ }
-    ensures { λ r. ⌜ r ≡ oldOpening work place filed ⌝ }
-{
-    let none = Position::of(0);
-    let begin = filed.begin;
-    let end = filed.end;
-    let name = filed.name;
-    let segments = filed.segments;
-    Opening {
-        opened: 1,
-        place: place + 1,
-        permit: permit(work),
-        species: filed.species,
-        pointers: [begin, end, begin, none, none, none, none, none],
-        name,
-        segments,
     }
 }
 
@@ -113,7 +58,7 @@ fn open_record(tables: &mut [u32], at: usize, place: usize, work: bool)
     ensures { λ _. ⌜ now (tables .exit) ≡ putOpening (now (tables .entry)) at (oldOpening work place (recordAt (now (tables .entry)) place)) ⌝ }
 {
     let filed = tables_records::load_record(tables, place);
-    let opening = old_opening(filed, place as u32, work);
+    let opening = opening_values::old_opening(filed, place as u32, work);
     tables_openings::put_opening(tables, at, opening);
 }
 

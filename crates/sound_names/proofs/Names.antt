@@ -16,8 +16,9 @@ use Rattle.combine.specs.laws.Same.{same-true, true-same}
 use Rattle.tables.specs.declared.Record.{Record}
 use Rattle.tables.specs.Fields.{isUsed}
 use Rattle.tables.specs.Records.{clash}
-use Rattle.sound_names.specs.Keys.{digits, keyOf, kinb, Spelled}
-use Rattle.sound_names.proofs.Digits.{digits-positive, digits-same}
+use Rattle.sound_keys.specs.Keys.{digits, keyOf}
+use Rattle.sound_keys.proofs.Digits.{digits-positive, digits-same}
+use Rattle.sound_names.specs.Keys.{kinb, Spelled}
 
 key-used : (r : Record) (at : ℕ) → r .used ≡ 1 → keyOf r at ≡ digits (r .name) at 6
 unfolding keyOf

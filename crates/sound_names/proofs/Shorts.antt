@@ -1,5 +1,5 @@
 -- What the short keys say: a record clashes with none that they tell it from. Assumes nothing.
-use Prim.Native.Nat.{ℕ, _+_, _-_, _<_}
+use Prim.Native.Nat.{ℕ, _+_, _<_}
 use mathlib.Core.Path.{_≡_, sym, ap, _∙_}
 use mathlib.Core.Logic.{⊎-elim}
 use mathlib.Core.Bool.{Bool, true, false, not, _&&_, _||_}
@@ -7,20 +7,17 @@ use mathlib.Core.List.{List}
 use native.Mathlib.Omega.{arith}
 use native.Mathlib.Decide.{ℕ-discrete}
 use lib.Dec.{eqb, leb}
-use lib.ListN.{length, getD, take, drop}
-use lib.Seq.{length-take-le, getD-take}
+use lib.ListN.{getD}
 use borrow.Author.Tests.{eq-eqb, ne-eqb, eqb-true, eqb-false, not-true}
 use Rattle.combine.specs.Below.{allBelow}
-use Rattle.combine.specs.laws.Below.{all-at, all-make, all-cong, bad-left, bad-right, left-of, right-of, split-bool}
+use Rattle.combine.specs.laws.Below.{all-at, all-make, bad-left, bad-right, left-of, right-of, split-bool}
 use Rattle.combine.specs.laws.Rows.{one-bad}
-use Rattle.combine.specs.Lists.{isIn}
-use Rattle.combine.specs.laws.Any.{not-in}
-use Rattle.placing.specs.Sizes.{places}
 use Rattle.tables.specs.declared.Record.{Record}
 use Rattle.tables.specs.Layout.{recordAt}
 use Rattle.tables.specs.Fields.{isUsed}
 use Rattle.tables.specs.Records.{clash}
-use Rattle.sound_names.specs.Keys.{keyOf, shortOf, publicOf, newb, apartb, Keyed}
+use Rattle.sound_keys.specs.Keys.{keyOf, shortOf, publicOf, newb, apartb}
+use Rattle.sound_names.specs.Keys.{Keyed}
 use Rattle.sound_names.proofs.Names.{keys-differ}
 
 abbrev ownedKey : Record → ℕ
@@ -59,19 +56,6 @@ unused-apart r q n = one-bad _ 0 n
 new-at : (l : List ℕ) (p : ℕ) → newb l p ≡ true → (q : ℕ) → q < p → getD l p 0 ≡ getD l q 0 → ⊥
 unfolding newb
 new-at l p e q b = eqb-false (getD l p 0) (getD l q 0) (not-true _ (all-at _ p e q b))
-
--- where it is not in the keys before it, as the code lends them
-pub not-listed : (l : List ℕ) (p : ℕ) (r : Bool) → length l ≡ places → p < places → r ≡ isIn (getD l p 0) (take (p - 0) (drop 0 l)) → not r ≡ newb l p
-unfolding newb
-not-listed l p r long lp e =
-    ap not e ∙ not-in (getD l p 0) b ∙ ap (λ (n : ℕ). allBelow n (λ k. not (eqb (getD l p 0) (getD b k 0)))) length-b
-    ∙ all-cong _ _ p (λ k s. ap (λ (x : ℕ). not (eqb (getD l p 0) x)) (getD-take (p - 0) (drop 0 l) k 0 (omega arith)))
-  where
-    b : List ℕ
-    b = take (p - 0) (drop 0 l)
-
-    length-b : length b ≡ p
-    length-b = length-take-le (p - 0) (drop 0 l) (omega (arith, long)) ∙ (let z : p - 0 ≡ p = omega arith in z)
 
 both-new : (owned public : List ℕ) (v p : ℕ) → apartb owned public v p ≡ true → (newb owned p ≡ true) × (v ≡ 0 → newb public p ≡ true)
 unfolding apartb

@@ -11,7 +11,8 @@ use borrow.Author.Tests.{eqb-true}
 use Rattle.placing.specs.Sizes.{places, tablesLength}
 use Rattle.tables.specs.Layout.{recordAt}
 use Rattle.tables.specs.Fields.{isUsed}
-use Rattle.sound_names.specs.Keys.{keyOf, shortOf, publicOf, Spelled, Halved, Keyed}
+use Rattle.sound_keys.specs.Keys.{keyOf, shortOf, publicOf}
+use Rattle.sound_names.specs.Keys.{Spelled, Halved, Keyed}
 use Rattle.sound_names.proofs.Names.{key-unused}
 
 -- from place n on no key is stored

@@ -1,4 +1,4 @@
--- `clashes::alone` meets its contract: no record before place `q` clashes. Assumes nothing.
+-- `sound_names::alone` meets its contract: no record before place `q` clashes. Assumes nothing.
 use Prim.Native.Nat.{_≤_, _-_}
 use mathlib.Core.Path.{_≡_, sym, ap, _∙_}
 use mathlib.Core.Bool.{true, not}

@@ -1,4 +1,4 @@
--- `clashes::clashes` meets its contract. Assumes nothing.
+-- `sound_names::clashes` meets its contract. Assumes nothing.
 use mathlib.Core.Path.{sym, _∙_}
 use native.Mathlib.Omega.{arith}
 use denote.Ref.{now}

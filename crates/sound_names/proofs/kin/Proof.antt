@@ -1,4 +1,4 @@
--- `clashes::kin` meets its contract. Assumes nothing.
+-- `sound_names::kin` meets its contract. Assumes nothing.
 use mathlib.Core.Path.{sym}
 use borrow.Author.Tests.{eq-eqb, ne-eqb}
 use borrow.Author.Needs.{needs}

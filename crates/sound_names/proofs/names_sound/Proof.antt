@@ -1,4 +1,4 @@
--- `clashes::names_sound` meets its contract: the keys before place `p` are there, and no record before it clashes. Assumes nothing.
+-- `sound_names::names_sound` meets its contract: the keys before place `p` are there, and no record before it clashes. Assumes nothing.
 use Prim.Native.Nat.{_-_}
 use mathlib.Core.Path.{_≡_, ap, _∙_}
 use mathlib.Core.Bool.{true}
@@ -9,7 +9,8 @@ use Rattle.combine.specs.Below.{allBelow}
 use Rattle.combine.specs.laws.Below.{all-zero, all-more, loop-true, loop-false, was-true, was-false}
 use Rattle.tables.specs.declared.Record.{Record}
 use Rattle.tables.specs.Records.{noClashb}
-use Rattle.sound_names.specs.Keys.{keyOf, Keyed}
+use Rattle.sound_keys.specs.Keys.{keyOf}
+use Rattle.sound_names.specs.Keys.{Keyed}
 use Rattle.sound_names.proofs.Rows.{row-at, owner-cell, private-flag}
 use Rattle.sound_names.proofs.Places.{used-cell, is-used, alone-unused}
 use Rattle.sound_names.proofs.Stored.{Rest, keys-none, rest-all, rest-skip, rest-put, keys-put, keys-skip}

@@ -1,0 +1,2 @@
+-- The laws that the proofs of the code cite. Assumes nothing.
+pub mod Values

@@ -1,0 +1,2 @@
+-- Keys of names. Assumes nothing.
+pub mod Keys
