@@ -1,17 +1,15 @@
+use borrow.Author.Needs.{needs}
 use Prim.Native.Nat.{_-_}
 use mathlib.Core.Path.{_≡_}
 use lib.ListN.{length}
-use borrow.Author.Needs.{needs}
-use Rattle.replay.proofs.append.Statement.{statement}
-use Rattle.replay.proofs.append.Tie as tie
+use Rattle.history_faults.proofs.text.append.Statement.{statement}
+use Rattle.history_faults.proofs.text.append.Tie as tie
 
 abbrev Inv-loop : tie.InvT-loop
-Inv-loop text₀ at bytes i₀ to₀ text i to =
-    length text ≡ length text₀
+Inv-loop text₀ at bytes i₀ to₀ text i to = length text ≡ length text₀
 
 abbrev μ-loop : tie.MeasureT-loop
-μ-loop text₀ at bytes i₀ to₀ text i to =
-    length bytes - i
+μ-loop text₀ at bytes i₀ to₀ text i to = length bytes - i
 
 loop-holds : tie.Need-loop-holds Inv-loop μ-loop
 loop-holds c = search needs

@@ -1,15 +1,15 @@
 use mathlib.Core.Path.{_≡_}
 use lib.ListN.{length}
 use borrow.Author.Needs.{needs}
-use Rattle.replay.proofs.run.Statement.{statement}
-use Rattle.replay.proofs.run.Tie as tie
+use Rattle.replay.proofs.read_all.Statement.{statement}
+use Rattle.replay.proofs.read_all.Tie as tie
 
 abbrev Inv-loop : tie.InvT-loop
-Inv-loop store₀ tables₀ images₀ text₀ input₀ filled₀ turns₀ store tables images text input filled turns =
-    (length store ≡ length store₀) × (length tables ≡ length tables₀) × (length images ≡ length images₀) × (length text ≡ length text₀) × (length input ≡ length input₀)
+Inv-loop store₀ tables₀ images₀ line₀ out₀ filled₀ turns₀ store tables images line out filled turns =
+    (length store ≡ length store₀) × (length tables ≡ length tables₀) × (length images ≡ length images₀) × (length line ≡ length line₀) × (length out ≡ length out₀)
 
 abbrev μ-loop : tie.MeasureT-loop
-μ-loop store₀ tables₀ images₀ text₀ input₀ filled₀ turns₀ store tables images text input filled turns =
+μ-loop store₀ tables₀ images₀ line₀ out₀ filled₀ turns₀ store tables images line out filled turns =
     turns
 
 loop-holds : tie.Need-loop-holds Inv-loop μ-loop
@@ -32,9 +32,6 @@ loop-again c = search needs
 
 enum-told-2 : tie.Need-enum-told-2 Inv-loop μ-loop
 enum-told-2 c = search needs
-
-finish-requires : tie.Need-finish-requires Inv-loop μ-loop
-finish-requires c κs = search needs
 
 same-length : tie.Need-same-length Inv-loop μ-loop
 same-length c = search needs
@@ -72,8 +69,8 @@ same-length-10 c = search needs
 returns-2 : tie.Need-returns-2 Inv-loop μ-loop
 returns-2 c = search needs
 
-pub run-spec : {M : Type 1} → statement M
-run-spec =
+pub read-all-spec : {M : Type 1} → statement M
+read-all-spec =
     tie.close
     (tie.spec
     Inv-loop
@@ -85,7 +82,6 @@ run-spec =
     loop-less
     loop-again
     enum-told-2
-    finish-requires
     same-length
     same-length-2
     same-length-3

@@ -2,15 +2,15 @@ use Prim.Native.Nat.{_-_}
 use mathlib.Core.Path.{_≡_}
 use lib.ListN.{length}
 use borrow.Author.Needs.{needs}
-use Rattle.replay.proofs.take_bytes.Statement.{statement}
-use Rattle.replay.proofs.take_bytes.Tie as tie
+use Rattle.replay.proofs.input.take_bytes.Statement.{statement}
+use Rattle.replay.proofs.input.take_bytes.Tie as tie
 
 abbrev Inv-loop : tie.InvT-loop
-Inv-loop store₀ tables₀ images₀ text₀ input filled₀ i₀ store tables images text filled i =
-    (length store ≡ length store₀) × (length tables ≡ length tables₀) × (length images ≡ length images₀) × (length text ≡ length text₀)
+Inv-loop store₀ tables₀ images₀ line₀ out₀ input filled₀ i₀ store tables images line out filled i =
+    (length store ≡ length store₀) × (length tables ≡ length tables₀) × (length images ≡ length images₀) × (length line ≡ length line₀) × (length out ≡ length out₀)
 
 abbrev μ-loop : tie.MeasureT-loop
-μ-loop store₀ tables₀ images₀ text₀ input filled₀ i₀ store tables images text filled i =
+μ-loop store₀ tables₀ images₀ line₀ out₀ input filled₀ i₀ store tables images line out filled i =
     length input - i
 
 loop-holds : tie.Need-loop-holds Inv-loop μ-loop
@@ -43,6 +43,9 @@ same-length-3 c = search needs
 same-length-4 : tie.Need-same-length-4 Inv-loop μ-loop
 same-length-4 c = search needs
 
+same-length-5 : tie.Need-same-length-5 Inv-loop μ-loop
+same-length-5 c = search needs
+
 returns : tie.Need-returns Inv-loop μ-loop
 returns c = search needs
 
@@ -62,4 +65,5 @@ take-bytes-spec =
     same-length-2
     same-length-3
     same-length-4
+    same-length-5
     returns)

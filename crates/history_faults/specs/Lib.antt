@@ -1,0 +1,2 @@
+-- Words by their places. Assumes nothing.
+pub mod Parts

@@ -1,0 +1,148 @@
+// Where a line departs from its form: the first word that is wrong, from left to right; then a word too many; then what is not there.
+use crate::parts::Part;
+use crate::parts::word_after;
+use history_lines::Buffer;
+use history_words::Number;
+ghost use lib.ListN.{length};
+ghost use Rattle.history_faults.specs.Parts.{Within};
+
+pub enum Fault {
+    None,
+    Missing, // no word
+    Empty, // a word of no bytes: "words parted by exactly one space"
+    NoNumber, // other bytes than digits
+    Long, // more than ten digits
+    Large, // above 4294967295
+    NoBuffer, // no buffer's name
+    Word, // a word after the last field
+    Space, // a space after the last field
+    Beyond, // an image, a cell or a length that is not there
+}
+
+// A fault, and the field of the form that it is about; no bytes where it is about none.
+pub struct Departure {
+    pub fault: Fault,
+    pub field: Part,
+}
+
+fn has_digits_only(word: &[u8]) -> bool {
+    let mut i = 0;
+    while i < word.len() {
+        if word[i] < b'0' {
+            return false;
+        }
+        if b'9' < word[i] {
+            return false;
+        }
+        i += 1;
+    }
+    true
+}
+
+fn number_fault(word: &[u8]) -> Fault {
+    let read = history_words::number_of(word);
+    match read {
+        Number::Is(n) => Fault::None,
+        Number::Bad => {
+            if !has_digits_only(word) {
+                return Fault::NoNumber;
+            }
+            if 10 < word.len() {
+                return Fault::Long;
+            }
+            Fault::Large
+        }
+    }
+}
+
+fn buffer_fault(word: &[u8]) -> Fault {
+    let named = history_lines::buffer_named(word);
+    match named {
+        Buffer::Unknown => Fault::NoBuffer,
+        Buffer::Store => Fault::None,
+        Buffer::Tables => Fault::None,
+        Buffer::Image(k) => Fault::None,
+    }
+}
+
+// What is wrong with a word that stands for a field.
+fn word_fault(field: &[u8], word: &[u8]) -> Fault {
+    if word.len() == 0 {
+        return Fault::Empty;
+    }
+    if history_words::same(field, b"BUFFER") {
+        return buffer_fault(word);
+    }
+    number_fault(word)
+}
+
+// The same by the places of both; a line that ends before a field's first byte lacks it.
+fn fault_at(form: &[u8], field: Part, line: &[u8], word: Part) -> Fault
+    requires { ⌜ Within field (length (now form)) ⌝ }
+    requires { ⌜ Within word (length (now line)) ⌝ }
+{
+    if word.from == line.len() {
+        return Fault::Missing;
+    }
+    let field_from = field.from;
+    let field_to = field.to;
+    let word_from = word.from;
+    let word_to = word.to;
+    word_fault(&form[field_from..field_to], &line[word_from..word_to])
+}
+
+// The first field that is a number: every form that names an image, a cell or a length has it there.
+fn first_number(form: &[u8]) -> Part
+    ensures { λ r. ⌜ Within r (length (now (form .entry))) ⌝ }
+{
+    let first = word_after(form, history_words::word_end(form, 0));
+    let from = first.from;
+    let to = first.to;
+    if history_words::same(&form[from..to], b"BUFFER") {
+        return word_after(form, to);
+    }
+    first
+}
+
+// Every field has its word: what follows the last is too much, and if nothing does, something is not there.
+fn departure_at_end(form: &[u8], line: &[u8], at: usize) -> Departure
+    ensures { λ r. ⌜ Within (r .field) (length (now (form .entry))) ⌝ }
+{
+    let word = word_after(line, at);
+    if word.from < word.to {
+        return Departure {
+            fault: Fault::Word,
+            field: Part { from: 0, to: 0 },
+        };
+    }
+    if at < line.len() {
+        return Departure {
+            fault: Fault::Space,
+            field: Part { from: 0, to: 0 },
+        };
+    }
+    Departure {
+        fault: Fault::Beyond,
+        field: first_number(form),
+    }
+}
+
+// The first departure, from left to right.
+pub fn find_departure(form: &[u8], line: &[u8]) -> Departure
+    ensures { λ r. ⌜ Within (r .field) (length (now (form .entry))) ⌝ }
+{
+    let mut at = history_words::word_end(form, 0);
+    let mut read = history_words::word_end(line, 0);
+    while at < form.len() {
+        let field = word_after(form, at);
+        let word = word_after(line, read);
+        let fault = fault_at(form, field, line, word);
+        match fault {
+            Fault::None => {}
+            _ => return Departure { fault, field },
+        }
+        at = field.to;
+        read = word.to;
+    }
+    departure_at_end(form, line, read)
+}

@@ -1,0 +1,32 @@
+// The answers, put into a text and written to standard output.
+use history_calls::Reply;
+use history_faults::text::append;
+use libc::STDOUT_FILENO;
+
+fn say_number(out: &mut [u8], at: usize, word: &[u8], n: u32) -> usize {
+    let mut decimal = [0u8; 20];
+    let k = io::decimal(n as u64, &mut decimal);
+    let from = append(out, at, word);
+    let to = append(out, from, &decimal[..k]);
+    append(out, to, b"\n")
+}
+
+// Puts the answer to a line into the text from a place on; answers the place after it.
+pub fn say(out: &mut [u8], at: usize, reply: Reply, line: &[u8]) -> usize {
+    match reply {
+        Reply::Done(n) => say_number(out, at, b"done ", n),
+        Reply::Refused(n) => say_number(out, at, b"refused ", n),
+        Reply::Lent(n) => say_number(out, at, b"lent ", n),
+        Reply::Cell(n) => say_number(out, at, b"cell ", n),
+        Reply::Sum(n) => say_number(out, at, b"sum ", n),
+        Reply::Bad => history_faults::explain(out, at, line),
+        Reply::Nothing => at,
+    }
+}
+
+// Writes the first n bytes of the text.
+pub fn flush(out: &[u8], n: usize) {
+    if n <= out.len() {
+        io::write_all(STDOUT_FILENO, &out[0..n]);
+    }
+}
