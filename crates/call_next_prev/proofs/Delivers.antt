@@ -28,7 +28,7 @@ use Rattle.tables.specs.Fields.{valueOf}
 use Rattle.tables.specs.Handles.{handleIn}
 use Rattle.cells.specs.Says.{openingIn, houseOf, asOpening}
 use Rattle.cells.specs.Outcomes.{Lent, lent, outcome}
-use Rattle.opening_laws.specs.Held.{place-within}
+use Rattle.placing.specs.laws.Held.{slot-within}
 use Rattle.opening_laws.specs.Back.{OpenFile, first-back, last-back, stay-back}
 use Rattle.opening_laws.specs.Shared.{segment-in}
 use Rattle.call_next_prev.specs.declared.Reading.{Reading}
@@ -79,7 +79,7 @@ module _ (t : List ℕ) (o : Opening) (w : OpenFile o) (p v : ℕ) (d : Deed) (v
       let y = f .lies in
       let k : ℕ = slotOf (o .species) (valueOf o 0) (x .0) in
       let q = ap segmentNumber (y .which) in
-      omega (arith, a .range k (place-within (o .species) (w .species) (valueOf o 0) (w .first) (valueOf o 1) (x .0) (y .low) (y .high)))
+      omega (arith, a .range k (slot-within (o .species) (w .species) (valueOf o 0) (w .first) (valueOf o 1) (x .0) (y .low) (y .high)))
 
 -- ---- next: what the arm of a reading has, and what it leaves
 

@@ -12,7 +12,7 @@ use Rattle.tables.specs.declared.Opening.{Opening}
 use Rattle.tables.specs.Fields.{valueOf}
 use Rattle.tables.specs.Handles.{pointed}
 use Rattle.opening_laws.specs.Deeded.{firstLeft, lastLeft}
-use Rattle.opening_laws.specs.Held.{place-within}
+use Rattle.placing.specs.laws.Held.{slot-within}
 use Rattle.opening_laws.specs.Back.{OpenFile}
 use Rattle.call_next_prev.specs.Reads.{segmentFor, lacksPermit, nextLeft, prevLeft}
 
@@ -31,7 +31,7 @@ pub ruleset permits = (permit-other, permit-this)
 
 module _ (o : Opening) (x k : ℕ) (ek : k ≡ slotOf (o .species) (valueOf o 0) x) where
   pub place-small : OpenFile o → valueOf o 0 ≤ x → x < valueOf o 1 → k < 32
-  place-small w l h = let f = w .few in omega (arith, place-within (o .species) (w .species) (valueOf o 0) (w .first) (valueOf o 1) x l h)
+  place-small w l h = let f = w .few in omega (arith, slot-within (o .species) (w .species) (valueOf o 0) (w .first) (valueOf o 1) x l h)
 
   pub segment-is : getD (o .segments) k (segment 0) ≡ segmentFor o x
   segment-is = ap (λ (j : ℕ). getD (o .segments) j (segment 0)) ek

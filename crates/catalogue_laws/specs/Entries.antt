@@ -22,7 +22,7 @@ use Rattle.tables.specs.Layout.{openingAt}
 use Rattle.tables.specs.Fields.{isOpen}
 use Rattle.tables.specs.Handles.{handleIn, placeOf}
 use Rattle.cells.specs.Says.{openingIn, decodedOpening, houseOf}
-use Rattle.catalogue_laws.specs.Lists.{first-cong, first-tab, any-first, map-tab}
+use Rattle.combine.specs.laws.Searches.{first-cong, first-tab, any-first, map-tab}
 
 -- an opening that keeps others from the record at place p: from work (w) every one, else one for work
 unfoldable pub keepsOff : Bool → ℕ → Opening → Bool

@@ -20,7 +20,7 @@ use Rattle.tables.specs.Layout.{recordAt}
 use Rattle.tables.specs.Fields.{isUsed}
 use Rattle.tables.specs.Handles.{headingOf, placeOf}
 use Rattle.cells.specs.Says.{recordIn, decodedRecord, houseOf}
-use Rattle.catalogue_laws.specs.Lists.{first-cong, first-found, first-tab, any-first, map-tab, set-tab}
+use Rattle.combine.specs.laws.Searches.{first-cong, first-found, first-tab, any-first, map-tab, set-tab}
 
 -- the headings of the catalogue's places
 unfoldable pub headings : List ℕ → List (Option Heading)

@@ -9,3 +9,10 @@ pub mod Same
 pub mod Parts
 pub mod Verdict
 pub mod Outcome
+pub mod Tests
+pub mod Put
+pub mod Replaced
+pub mod Mapped
+pub mod Searches
+pub mod Sums
+pub mod Each

@@ -1,6 +1,6 @@
 -- What is not marked, after the marks of a row and of the lists. Assumes nothing.
-use Prim.Native.Nat.{ℕ, zero, suc, _+_, _-_, _<_}
-use mathlib.Core.Path.{_≡_, refl, sym, ap, subst, _∙_}
+use Prim.Native.Nat.{ℕ, _+_, _<_}
+use mathlib.Core.Path.{_≡_, sym, ap, subst, _∙_}
 use mathlib.Core.Bool.{Bool, not, _&&_, and-true, and-false, and-assoc}
 use mathlib.Core.List.{List}
 use native.Mathlib.Omega.{arith}
@@ -9,6 +9,7 @@ use lib.Dec.{eqb}
 use lib.ListN.{length, getD, set, replicate}
 use lib.Seq.{getD-set-same, getD-set-other}
 use borrow.Author.Tests.{eq-eqb, ne-eqb}
+use Rattle.combine.specs.laws.Replaced.{replicate-at}
 use Rattle.combine.specs.Below.{allBelow, countBelow}
 use Rattle.combine.specs.laws.Below.{all-zero, all-suc}
 use Rattle.combine.specs.Lists.{isIn}
@@ -68,12 +69,7 @@ module _ (t : List ℕ) (w : Ranged t) (i : ℕ) (l : i < 96) where
 
 -- ---- the marks were all zero at first
 
-zeros-at : (n g : ℕ) → _≡_ {A = ℕ} (getD (replicate n 0) g 0) 0
-zeros-at zero g = refl
-zeros-at (suc n) zero = refl
-zeros-at (suc n) (suc g) = zeros-at n g
-
 pub free-counted : (t marks : List ℕ) (r : ℕ) → r ≡ countBelow (segmentsIn t) (λ g. eqb (getD marks g 0) 0) → ((g : ℕ) → eqb (getD marks g 0) 0 ≡ (eqb (getD (replicate 1024 0) g 0) 0 && isFree (houseOf t) g)) → r ≡ freeCount (houseOf t)
 unfolding freeCount houseOf
 free-counted t marks r e h =
-    e ∙ count-cong _ (isFree (houseOf t)) (segmentsIn t) (λ g l. h g ∙ ap (λ (n : ℕ). eqb n 0 && isFree (houseOf t) g) (zeros-at 1024 g))
+    e ∙ count-cong _ (isFree (houseOf t)) (segmentsIn t) (λ g l. h g ∙ ap (λ (n : ℕ). eqb n 0 && isFree (houseOf t) g) (replicate-at {A = ℕ} 1024 g 0))

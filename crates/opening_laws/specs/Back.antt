@@ -25,7 +25,7 @@ use Rattle.tables.specs.laws.Again.{set-back}
 use Rattle.tables.specs.laws.Pointers.{value-in}
 use Rattle.cells.specs.Says.{openingIn, inPlaces, asOpening}
 use Rattle.opening_laws.specs.Deeded.{withSegments, withSegment, firstLeft, lastLeft}
-use Rattle.opening_laws.specs.Held.{held-from-next, held-to-last}
+use Rattle.placing.specs.laws.Held.{held-from-next, held-to-last}
 use Rattle.opening_laws.specs.Places.{places-at, places-from, places-to, places-put}
 
 -- what an open entry of sound tables is

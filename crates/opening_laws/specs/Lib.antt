@@ -1,6 +1,5 @@
 -- What each deed does to the cells of an opening. Assumes nothing.
 pub mod Deeded
-pub mod Held
 pub mod Places
 pub mod Back
 pub mod Shared

@@ -17,7 +17,7 @@ use Rattle.tables.specs.Layout.{recordBase, openingBase, segmentsIn, freshTable
 use Rattle.tables.specs.Sound.{soundb}
 use Rattle.cells.specs.Says.{decodedRecord, decodedOpening, asRecord, asOpening}
 use Rattle.cells.specs.laws.Operator.{fresh-says}
-use Rattle.proof_requests_sound.specs.Lists.{replicate-at}
+use Rattle.combine.specs.laws.Replaced.{replicate-at}
 use Rattle.proof_requests_sound.specs.Fresh.{fresh-sound}
 use Rattle.proof_cells_agree.specs.Canonical.{Canonical}
 use Rattle.proof_cells_agree.specs.SaysSound.{says-sound}

@@ -16,7 +16,7 @@ use Rattle.segments.specs.Free.{SegmentRecord, SegmentOpening, SegmentHouse, re
 use Rattle.segments.specs.laws.Sound.{Tied, Placed, SoundOpen, SoundEntry, Alone}
 use Rattle.tables.specs.laws.Lists.{Distinct}
 use Rattle.cells.specs.Says.{houseOf}
-use Rattle.proof_requests_sound.specs.Tests.{and-intro}
+use Rattle.combine.specs.laws.Tests.{and-intro}
 use Rattle.proof_requests_sound.specs.Away.{handle-at}
 use Rattle.proof_requests_sound.specs.Counts.{in-at}
 use Rattle.proof_cells_agree.specs.Wording.{Lists, openingStretch, RecordsApart, MixedApart, OpeningsApart}

@@ -12,9 +12,10 @@ use Rattle.combine.specs.laws.Numbers.{le-or-lt}
 use Rattle.combine.specs.Lists.{total, isIn}
 use Rattle.segments.specs.Free.{SegmentRecord, SegmentOpening, SegmentHouse, recordSegments, placeSegments}
 use Rattle.segments.specs.laws.Sound.{times, timesInRecord, timesInOpening, mentions}
-use Rattle.proof_requests_sound.specs.Tests.{by-test, true-of, false-of}
+use Rattle.combine.specs.laws.Tests.{by-test, true-of, false-of}
 use Rattle.proof_requests_sound.specs.Counts.{times-none}
-use Rattle.proof_cells_agree.specs.Lists.{total-zero, total-one, times-one}
+use Rattle.combine.specs.laws.Each.{total-zero, total-one}
+use Rattle.proof_cells_agree.specs.Lists.{times-one}
 use Rattle.proof_cells_agree.specs.Wording.{Lists, lists-where, Apart}
 
 times-where : (g : ℕ) (l : List ℕ) → 1 ≤ times g l → (k : ℕ) × Lists l k g

@@ -20,10 +20,10 @@ use Rattle.tables.specs.Fields.{heldByRecord, heldByOpening}
 use Rattle.tables.specs.Lists.{heldIn, listed, stretchIn, familyOf, agree, distinctb}
 use Rattle.tables.specs.laws.Lists.{Distinct}
 use Rattle.cells.specs.Says.{houseOf, asRecord, asOpening}
-use Rattle.proof_requests_sound.specs.Tests.{by-test}
-use Rattle.proof_requests_sound.specs.Sums.{not-any}
+use Rattle.combine.specs.laws.Tests.{by-test}
+use Rattle.combine.specs.laws.Sums.{not-any}
 use Rattle.proof_requests_sound.specs.Opened.{sound-at}
-use Rattle.proof_cells_agree.specs.Lists.{any-where}
+use Rattle.combine.specs.laws.Each.{any-where}
 use Rattle.proof_cells_agree.specs.Wording.{Lists, lists-where, recordStretch, openingStretch, Apart}
 use Rattle.proof_cells_agree.specs.Worded.{worded}
 use Rattle.proof_cells_agree.specs.Shown.{EachRecord, EachOpening, Shown, familyFor, record-shown, opening-shown, shown-agree}

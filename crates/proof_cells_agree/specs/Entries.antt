@@ -22,7 +22,7 @@ use Rattle.tables.specs.Handles.{handleIn, placeOf}
 use Rattle.tables.specs.Openings.{workb, openb, openingb, openingsb}
 use Rattle.tables.specs.laws.Put.{opening-shaped-at}
 use Rattle.cells.specs.Says.{houseOf}
-use Rattle.proof_requests_sound.specs.Tests.{and-first, and-second, eqb-ne}
+use Rattle.combine.specs.laws.Tests.{and-first, and-second, eqb-ne}
 use Rattle.proof_cells_agree.specs.Lists.{passing-at}
 use Rattle.proof_cells_agree.specs.There.{opening-there}
 use Rattle.proof_cells_agree.specs.Openings.{shared}

@@ -17,7 +17,7 @@ use Rattle.tables.specs.Layout.{segmentNumber}
 use Rattle.tables.specs.Fields.{numberAt}
 use Rattle.tables.specs.Records.{extentb, listb}
 use Rattle.cells.specs.Says.{inPlaces}
-use Rattle.proof_requests_sound.specs.Lists.{replicate-at}
+use Rattle.combine.specs.laws.Replaced.{replicate-at}
 use Rattle.proof_cells_agree.specs.Rows.{enough, _also_, row}
 
 -- ---- numbers in the places of a list

@@ -27,7 +27,7 @@ use Rattle.tables.specs.Fields.{isUsed}
 use Rattle.tables.specs.Handles.{headingOf}
 use Rattle.tables.specs.Records.{clash, noClashb, recordsb}
 use Rattle.cells.specs.Says.{houseOf}
-use Rattle.proof_requests_sound.specs.Tests.{true-of, and-first, and-second}
+use Rattle.combine.specs.laws.Tests.{true-of, and-first, and-second}
 use Rattle.proof_cells_agree.specs.Lists.{passing-at}
 use Rattle.proof_cells_agree.specs.Rows.{enough, _also_, row}
 use Rattle.proof_cells_agree.specs.There.{record-there}

@@ -26,7 +26,7 @@ use Rattle.tables.specs.Fields.{isUsed, valueOf, numberAt, recordFor}
 use Rattle.tables.specs.Handles.{bit, placeNumber}
 use Rattle.tables.specs.Openings.{linkb, readb, workb, besideRecordb, pointersb, openb, closedb, openingb, openingsb}
 use Rattle.cells.specs.Says.{inPlaces, houseOf, asRecord, asOpening}
-use Rattle.proof_requests_sound.specs.Tests.{true-of, and-intro}
+use Rattle.combine.specs.laws.Tests.{true-of, and-intro}
 use Rattle.proof_requests_sound.specs.Away.{handle-at}
 use Rattle.proof_cells_agree.specs.Rows.{enough, _also_, row}
 use Rattle.proof_cells_agree.specs.There.{record-there}

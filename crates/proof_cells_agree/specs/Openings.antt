@@ -28,7 +28,7 @@ use Rattle.tables.specs.Openings.{linkb, readb, workb, besideRecordb, pointersb
 use Rattle.tables.specs.laws.Again.{ShapedRecord, ShapedOpening}
 use Rattle.tables.specs.laws.Put.{record-shaped-at}
 use Rattle.cells.specs.Says.{recordIn, openingIn, houseOf}
-use Rattle.proof_requests_sound.specs.Tests.{or-first, or-second, or-split, true-of}
+use Rattle.combine.specs.laws.Tests.{or-first, or-second, or-split, true-of}
 use Rattle.proof_cells_agree.specs.There.{says-used, held-used, held-open, value-said, record-at}
 use Rattle.proof_cells_agree.specs.Files.{file-sound}
 

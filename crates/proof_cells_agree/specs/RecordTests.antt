@@ -26,7 +26,7 @@ use Rattle.tables.specs.Fields.{isUsed}
 use Rattle.tables.specs.Handles.{bit, headingOf}
 use Rattle.tables.specs.Records.{usedb, unusedb, recordb, clash, noClashb, recordsb}
 use Rattle.cells.specs.Says.{decodedRecord, houseOf, asRecord}
-use Rattle.proof_requests_sound.specs.Tests.{or-split, and-first, and-second, and-intro}
+use Rattle.combine.specs.laws.Tests.{or-split, and-first, and-second, and-intro}
 use Rattle.proof_cells_agree.specs.Rows.{enough, _also_, row}
 use Rattle.proof_cells_agree.specs.There.{says-used, record-at}
 use Rattle.proof_cells_agree.specs.Files.{extent-test, list-test}

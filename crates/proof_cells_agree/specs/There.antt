@@ -19,7 +19,7 @@ use Rattle.tables.specs.Fields.{isUsed, isOpen, valueOf, heldByRecord, heldByOp
 use Rattle.tables.specs.Handles.{handleIn}
 use Rattle.cells.specs.Says.{recordIn, openingIn, decodedRecord, decodedOpening, houseOf}
 use Rattle.cells.specs.laws.Determined.{one-not-zero}
-use Rattle.proof_cells_agree.specs.Lists.{tab-each}
+use Rattle.combine.specs.laws.Each.{tab-each}
 
 -- ---- a record and an opening by themselves
 

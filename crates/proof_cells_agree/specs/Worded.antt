@@ -14,8 +14,8 @@ use Rattle.placing.specs.Placing.{stretchOf}
 use Rattle.rules.specs.Headings.{value}
 use Rattle.segments.specs.Free.{SegmentRecord, SegmentOpening, SegmentHouse, recordSegments, openingSegments, placeSegments}
 use Rattle.segments.specs.laws.Sound.{times, timesInRecord, timesInOpening, OneStretch, Tied, Placed, SoundHouse}
-use Rattle.proof_requests_sound.specs.Tests.{by-test, false-of}
-use Rattle.proof_requests_sound.specs.Sums.{total-at, total-two}
+use Rattle.combine.specs.laws.Tests.{by-test, false-of}
+use Rattle.combine.specs.laws.Sums.{total-at, total-two}
 use Rattle.proof_requests_sound.specs.Counts.{times-some, times-at, times-two, in-at, own-opening}
 use Rattle.proof_requests_sound.specs.Opened.{sound-at}
 use Rattle.proof_cells_agree.specs.Wording.{Lists, openingStretch, recordStretch, Apart}

@@ -21,7 +21,7 @@ use Rattle.rules.specs.Levels.{perform, ruled, orBlank}
 use Rattle.model.specs.Model.{Body, Files, Model, model, modelLevel}
 use Rattle.model.specs.Step.{performOnModel, requestOnModel}
 use Rattle.demands.specs.Abandoning.{crowded}
-use Rattle.proof_requests_sound.specs.Tests.{and-intro}
+use Rattle.combine.specs.laws.Tests.{and-intro}
 use Rattle.proof_demand3.specs.Eased.{emptiedHouse, emptied, othersIn, eased}
 use Rattle.proof_demand3.specs.Calm.{calm, rule-eased}
 

@@ -13,8 +13,8 @@ use Rattle.rules.specs.Headings.{handleOf, passes}
 use Rattle.rules.specs.Effects.{Others}
 use Rattle.rules.specs.House.{house, opensPlace, worksPlace, othersOf}
 use Rattle.model.specs.Model.{Files, Model, model, ownedBy, free, modelLevel}
-use Rattle.proof_requests_sound.specs.Tests.{or-second}
-use Rattle.proof_requests_sound.specs.Lists.{map-set}
+use Rattle.combine.specs.laws.Tests.{or-second}
+use Rattle.combine.specs.laws.Replaced.{map-set}
 
 -- ---- the entry i emptied
 

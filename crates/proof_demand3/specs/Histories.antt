@@ -12,7 +12,7 @@ use Rattle.rules.specs.Calls.{Request, abandons, Call, starts, asks, on}
 use Rattle.cells.specs.Outcomes.{Lent}
 use Rattle.model.specs.Step.{Report}
 use Rattle.proof_calls_sound.specs.Keeps.{keeps-sound}
-use Rattle.proof_requests_sound.specs.Tests.{and-first, and-second}
+use Rattle.combine.specs.laws.Tests.{and-first, and-second}
 use Rattle.demands.specs.History.{outcomeOn, afterCall, toldOf, viewOn, toldAll, final}
 use Rattle.demands.specs.Demands.{Sound}
 use Rattle.demands.specs.Abandoning.{isOn, ending, quiet, Quiet, NoLoad, Fate, remains, counts, struck, isCount, leftFate, betweenFate, strike, heard, allStay}

@@ -23,7 +23,7 @@ use Rattle.rules.specs.Levels.{perform, ruled, orBlank}
 use Rattle.model.specs.Model.{Body, Files, Model, model, modelLevel}
 use Rattle.model.specs.Step.{performOnModel, requestOnModel}
 use Rattle.demands.specs.Abandoning.{ending}
-use Rattle.proof_requests_sound.specs.Tests.{nand-second}
+use Rattle.combine.specs.laws.Tests.{nand-second}
 use Rattle.proof_requests_sound.specs.Verdicts.{Has, has, has-onDone}
 use Rattle.proof_demand3.specs.Eased.{emptied, othersIn}
 use Rattle.proof_demand3.specs.Another.{judged}

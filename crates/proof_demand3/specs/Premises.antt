@@ -10,7 +10,7 @@ use Rattle.cells.specs.Outcomes.{Lent}
 use Rattle.model.specs.Model.{Model}
 use Rattle.model.specs.Step.{step}
 use Rattle.proof_calls_sound.specs.Keeps.{keeps-sound}
-use Rattle.proof_requests_sound.specs.Tests.{and-first, and-second}
+use Rattle.combine.specs.laws.Tests.{and-first, and-second}
 use Rattle.demands.specs.History.{afterCall, viewOn, final}
 use Rattle.demands.specs.Demands.{Sound}
 use Rattle.demands.specs.Abandoning.{quiet, Quiet, isLoad, NoLoad, Story, openingCall, Abandoned}

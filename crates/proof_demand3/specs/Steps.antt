@@ -18,7 +18,7 @@ use Rattle.rules.specs.House.{closedDown}
 use Rattle.model.specs.Model.{Files, Model, free}
 use Rattle.model.specs.Step.{Report, report, askModel, step, stepTold}
 use Rattle.demands.specs.Abandoning.{isOn, ends, crowded, quiet, isLoad, isCount}
-use Rattle.proof_requests_sound.specs.Tests.{and-first, and-second}
+use Rattle.combine.specs.laws.Tests.{and-first, and-second}
 use Rattle.proof_demand3.specs.Eased.{emptied}
 use Rattle.proof_demand3.specs.Another.{carried, request-another}
 

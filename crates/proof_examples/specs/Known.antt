@@ -18,7 +18,7 @@ use Rattle.cells.specs.Outcomes.{Lent, lent}
 use Rattle.model.specs.Model.{Files, Model, free}
 use Rattle.model.specs.Step.{step, requestOnModel}
 use Rattle.model.specs.View.{filesIn}
-use Rattle.proof_requests_sound.specs.Tests.{and-first, and-second}
+use Rattle.combine.specs.laws.Tests.{and-first, and-second}
 use Rattle.proof_calls_sound.specs.Keeps.{keeps-sound}
 use Rattle.demands.specs.History.{outcomeOn, afterCall, viewOn}
 use Rattle.demands.specs.Demands.{Sound}

@@ -22,7 +22,7 @@ use Rattle.cells.specs.Outcomes.{Lent}
 use Rattle.cells.specs.laws.Lowered.{stateOf}
 use Rattle.proof_requests_agree.specs.Agrees.{request-agrees}
 use Rattle.proof_calls_sound.specs.Keeps.{keeps-sound}
-use Rattle.proof_requests_sound.specs.Tests.{and-first, and-second}
+use Rattle.combine.specs.laws.Tests.{and-first, and-second}
 use Rattle.demands.specs.History.{afterCall, final}
 use Rattle.demands.specs.Demands.{Sound, isStart}
 

@@ -18,11 +18,11 @@ use Rattle.segments.specs.Free.{SegmentRecord, SegmentOpening, SegmentHouse, re
 use Rattle.segments.specs.laws.Sound.{times, timesInRecord, timesBut, timesInOpening, mentions, SoundPlace, SoundEntry, SoundHouse}
 use Rattle.model.specs.Model.{heldBy, ownFlag, ownedBy, free, modelLevel}
 use Rattle.model.specs.View.{viewPlace, viewEntry, viewHouse}
-use Rattle.proof_requests_sound.specs.Tests.{by-test, true-of, false-of, or-split}
+use Rattle.combine.specs.laws.Tests.{by-test, true-of, false-of, or-split}
 use Rattle.proof_requests_sound.specs.Ranges.{InRange}
-use Rattle.proof_requests_sound.specs.Sums.{none-total, not-any}
+use Rattle.combine.specs.laws.Sums.{none-total, not-any}
 use Rattle.proof_requests_sound.specs.Counts.{times-some, times-none}
-use Rattle.proof_model.specs.Lists.{total-seen}
+use Rattle.combine.specs.laws.Mapped.{total-seen}
 use Rattle.proof_model.specs.Sums.{sumBelow, sum-alike, sum-zero, sum-add, sum-total, pick, count-and-sum}
 
 -- ---- in one list

@@ -19,7 +19,7 @@ use Rattle.model.specs.Model.{Body, body, bodyAfter, deliveredByModel}
 use Rattle.model.specs.View.{viewOpening}
 use Rattle.proof_requests_sound.specs.Uses.{Inside}
 use Rattle.proof_requests_sound.specs.Tied.{value-here, value-else}
-use Rattle.proof_model.specs.Lists.{map-take, map-drop}
+use Rattle.combine.specs.laws.Mapped.{map-take, map-drop}
 use Rattle.proof_model.specs.Elements.{elements-but-first, elements-but-last}
 
 -- which of the segments gs are of the record's rsegs

@@ -24,7 +24,7 @@ use Rattle.segments.specs.laws.Sound.{SoundFiled, SoundPlace, SoundOpen, SoundH
 use Rattle.model.specs.Model.{Body, body, model, elementsOfFile, bodyAfter, modelLevel}
 use Rattle.model.specs.Step.{performOnModel}
 use Rattle.model.specs.View.{viewPlace, viewOpening, viewEntry}
-use Rattle.proof_requests_sound.specs.Tests.{true-of, or-first, or-second}
+use Rattle.combine.specs.laws.Tests.{true-of, or-first, or-second}
 use Rattle.proof_requests_sound.specs.Uses.{Inside, Usable, asks, renames, moves, first, last, replaces, appends}
 use Rattle.proof_requests_sound.specs.Allowed.{Old, Opens, a-new, an-old, Handles, an-end, a-freeing, a-filing, a-use}
 use Rattle.proof_requests_sound.specs.Away.{behind, away-works, away-filed}

@@ -13,9 +13,9 @@ use Rattle.combine.specs.laws.Numbers.{le-or-lt}
 use Rattle.placing.specs.Sizes.{greatestSpecies}
 use Rattle.placing.specs.Placing.{segment, position, heldOf, slotOf}
 use Rattle.store.specs.Store.{elementAt, segmentOf, elementsIn}
-use Rattle.store.specs.laws.Lists.{put-within, put-at-end}
+use Rattle.combine.specs.laws.Put.{put-within, put-at-end}
 use Rattle.store.specs.laws.Files.{elementIn, length-elements, elements-ext, elements-last, elements-first}
-use Rattle.proof_requests_sound.specs.Held.{dropped, near-inside}
+use Rattle.placing.specs.laws.Held.{dropped, slot-within}
 
 module _ (st gs : List ℕ) (s : ℕ) (species : s ≤ greatestSpecies) (b e : ℕ) (first : 1 ≤ b) (some : b < e) where
   -- the list keeps its last segments
@@ -26,7 +26,7 @@ module _ (st gs : List ℕ) (s : ℕ) (species : s ≤ greatestSpecies) (b e : �
       let next : List ℕ = drop (slotOf s b (b + 1)) gs in
       ⊎-elim
       (λ l. elements-ext st st kept next s (b + 1) e (λ x bx xe. absurd (let y : ⊥ = omega arith in y)))
-      (λ l. ap (λ (k : ℕ). elementsIn st (drop k gs) s (b + 1) e) (ap (λ (n : ℕ). n - heldOf s (b + 1) e) each ∙ dropped s species b e first l))
+      (λ l. ap (λ (k : ℕ). elementsIn st (drop k gs) s (b + 1) e) (ap (λ (n : ℕ). n - heldOf s (b + 1) e) each ∙ dropped s species b first e (omega arith) l))
       (le-or-lt e (b + 1))
       ∙ sym (ap (drop 1) (elements-first st gs s b e species some))
 
@@ -40,7 +40,7 @@ module _ (st gs : List ℕ) (s : ℕ) (species : s ≤ greatestSpecies) (b e : �
       let whole : elementsIn st gs s b e ≡ before ++ end = ap (elementsIn st gs s b) (sym c) ∙ elements-last st gs s b (e - 1) (omega arith) in
       let size : length (elementsIn st gs s b e) - 1 ≡ length before = omega (arith, length-elements st gs s b e, length-elements st gs s b (e - 1)) in
       elements-ext st st (take (heldOf s b (e - 1)) gs) gs s b (e - 1)
-      (λ x bx xe. ap (λ (g : ℕ). elementAt st s (segment g) (position x)) (getD-take (heldOf s b (e - 1)) gs (slotOf s b x) 0 (near-inside s species b (e - 1) first x bx xe)))
+      (λ x bx xe. ap (λ (g : ℕ). elementAt st s (segment g) (position x)) (getD-take (heldOf s b (e - 1)) gs (slotOf s b x) 0 (slot-within s species b first (e - 1) x bx xe)))
       ∙ sym (take-at before end (length (elementsIn st gs s b e) - 1) (sym size)) ∙ ap (take (length (elementsIn st gs s b e) - 1)) (sym whole)
 
 -- ---- the number n at position v

@@ -14,9 +14,9 @@ use Rattle.segments.specs.State.{State}
 use Rattle.segments.specs.laws.Sound.{SoundHouse}
 use Rattle.model.specs.Model.{File, Body, Model, model}
 use Rattle.model.specs.View.{viewPlace, viewOpening, viewEntry, viewHouse}
-use Rattle.proof_requests_sound.specs.Lists.{map-set}
+use Rattle.combine.specs.laws.Replaced.{map-set}
 use Rattle.proof_requests_sound.specs.Away.{Away}
-use Rattle.proof_model.specs.Lists.{map-frame, map-set-frame}
+use Rattle.combine.specs.laws.Mapped.{map-frame, map-set-frame}
 use Rattle.proof_model.specs.Stores.{aim, stored, stored-length, stored-outside}
 use Rattle.proof_model.specs.Frames.{place-frame, entry-frame, entry-away-seen}
 

@@ -19,7 +19,7 @@ use Rattle.segments.specs.laws.Sound.{SoundFile, SoundPlace, SoundEntry}
 use Rattle.model.specs.Model.{File, body}
 use Rattle.model.specs.View.{viewPlace, viewEntry}
 use Rattle.proof_requests_sound.specs.Counts.{in-at}
-use Rattle.proof_requests_sound.specs.Held.{near-inside}
+use Rattle.placing.specs.laws.Held.{slot-within}
 use Rattle.proof_requests_sound.specs.Away.{segments-away}
 use Rattle.proof_model.specs.Deeds.{sharedWith, bodySeen}
 
@@ -32,7 +32,7 @@ module _ (st st′ : List ℕ) (g : ℕ) (kept : (k : ℕ) → Outside (segment 
     where
       unlisted : Unlisted gs s b e (segment g)
       unlisted x l r q =
-          let held = near-inside s (f .species) b e (f .first) x l r in
+          let held = slot-within s (f .species) b (f .first) e x l r in
           T-not (isIn g gs) t (in-at g gs (slotOf s b x) (omega (arith, f .each)) q)
 
   pub place-frame : (n : ℕ) (r : Option SegmentRecord) → SoundPlace n r → T (not (isIn g (recordSegments r))) → viewPlace st′ r ≡ viewPlace st r

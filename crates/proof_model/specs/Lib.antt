@@ -1,5 +1,4 @@
 -- What users know after a request is the model's step of what they knew. Assumes nothing.
-pub mod Lists
 pub mod Sums
 pub mod Counted
 pub mod Elements

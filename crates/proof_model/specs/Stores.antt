@@ -23,12 +23,12 @@ use Rattle.segments.specs.Deeds.{lacks, segmentAt, sharesAt, takesAt, target, s
 use Rattle.segments.specs.laws.Sound.{SoundOpen, SoundHouse}
 use Rattle.model.specs.Model.{bodyAfter}
 use Rattle.model.specs.View.{viewOpening}
-use Rattle.proof_requests_sound.specs.Tests.{false-of}
-use Rattle.proof_requests_sound.specs.Held.{near-inside, near-end}
+use Rattle.combine.specs.laws.Tests.{false-of}
+use Rattle.placing.specs.laws.Held.{slot-within, slot-at-end}
 use Rattle.proof_requests_sound.specs.Tied.{value-here, value-else}
 use Rattle.proof_requests_sound.specs.Taken.{Target, target-of}
 use Rattle.proof_requests_sound.specs.Opened.{sound-at}
-use Rattle.proof_model.specs.Lists.{map-put}
+use Rattle.combine.specs.laws.Mapped.{map-put}
 use Rattle.proof_model.specs.Elements.{elements-replaced, elements-appended}
 use Rattle.proof_model.specs.Deeds.{sharedWith, bodySeen}
 
@@ -88,8 +88,8 @@ module _ (st : List ℕ) (h : SegmentHouse) (sound : SoundHouse h) (fits : segme
 
   near : slotIn (x .handle) v ≤ length (x .content)
   near = rw (before .file .each) (⊎-elim
-      (λ l. let e : v ≡ end = omega arith in rw e (near-end species (before .file .species) begin end (before .file .first) (before .file .order)))
-      (λ l. let z = near-inside species (before .file .species) begin end (before .file .first) v low l in omega arith)
+      (λ l. let e : v ≡ end = omega arith in rw e (slot-at-end species (before .file .species) begin (before .file .first) end (before .file .order)))
+      (λ l. let z = slot-within species (before .file .species) begin (before .file .first) end v low l in omega arith)
       (le-or-lt end v))
 
   ready : Within (segment goal) st
@@ -132,7 +132,7 @@ module _ (st : List ℕ) (h : SegmentHouse) (sound : SoundHouse h) (fits : segme
       → elementAt stored species (segment goal) (position y) ≡ elementIn st (x .content) species begin y
   unfolding prepared segmentOf slotOf
   beside y l r d q =
-      let held = near-inside species (before .file .species) begin end (before .file .first) y l r in
+      let held = slot-within species (before .file .species) begin (before .file .first) end y l r in
       let some-there : T (not (lacks x v)) = not-T (lacks x v) (λ t. let z = leb→le (length (x .content)) (slotIn (x .handle) v) t in omega (arith, before .file .each)) in
       let one : stretchOf species v ≡ stretchOf species y =
       omega (arith, q, stretch-mono species (before .file .species) begin v low, stretch-mono species (before .file .species) begin y l) in
@@ -145,7 +145,7 @@ module _ (st : List ℕ) (h : SegmentHouse) (sound : SoundHouse h) (fits : segme
       → elementAt stored species (segment (segmentOf (x .content) species begin y)) (position y) ≡ elementIn st (x .content) species begin y
   unfolding segmentOf
   elsewhere y l r d =
-      let held = near-inside species (before .file .species) begin end (before .file .first) y l r in
+      let held = slot-within species (before .file .species) begin (before .file .first) end y l r in
       element-elsewhere st stored species (before .file .species) (segment goal) (segment (segmentOf (x .content) species begin y)) (position y) stored-outside
       (aim .apart (slotIn (x .handle) y) (omega (arith, before .file .each)) d)
 

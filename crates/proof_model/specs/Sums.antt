@@ -9,7 +9,7 @@ use mathlib.Core.List.{List, [], _∷_}
 use lib.Dec.{eqb}
 use Rattle.combine.specs.Below.{countBelow}
 use Rattle.combine.specs.Lists.{total}
-use Rattle.proof_requests_sound.specs.Tests.{eqb-ne, eqb-eq}
+use Rattle.combine.specs.laws.Tests.{eqb-ne, eqb-eq}
 
 unfoldable pub sumBelow : ℕ → (ℕ → ℕ) → ℕ
 sumBelow zero f = 0

@@ -19,7 +19,7 @@ use Rattle.segments.specs.laws.Sound.{Placed, SoundFiled, SoundPlace, SoundEntr
 use Rattle.cells.specs.Says.{houseOf}
 use Rattle.cells.specs.laws.Written.{FitsRecord, FitsEntry, FitsFiling}
 use Rattle.cells.specs.laws.Lowered.{Fits, AllFit}
-use Rattle.proof_requests_sound.specs.Lists.{place-below}
+use Rattle.combine.specs.laws.Replaced.{place-below}
 use Rattle.proof_requests_sound.specs.Allowed.{PlaceOf, Filing, a-new, an-old, an-end, a-freeing, a-filing, a-use}
 use Rattle.proof_requests_sound.specs.Opened.{sound-at}
 use Rattle.proof_requests_sound.specs.Requests.{AllowedAt, effect-allowed, effect-keeps-sound}

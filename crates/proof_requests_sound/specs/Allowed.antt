@@ -14,8 +14,8 @@ use Rattle.rules.specs.Headings.{Heading, Handle, passes, isSome}
 use Rattle.rules.specs.Effects.{Use, Effect, opensNew, opensOld, ended, unfiled, filed, used, Others}
 use Rattle.rules.specs.Access.{acting}
 use Rattle.rules.specs.Rules.{isOwn, isPublic, lookUp, openedAs, busy, openRecord, openOld, openNew, headed, without, placeFor, vanish, closeRule, rule, newHandle}
-use Rattle.proof_requests_sound.specs.Tests.{not-not, or-first, or-second, nor-first, nor-second, and-first, and-second, nand-second}
-use Rattle.proof_requests_sound.specs.Lists.{first-where, place-below}
+use Rattle.combine.specs.laws.Tests.{not-not, or-first, or-second, nor-first, nor-second, and-first, and-second, nand-second}
+use Rattle.combine.specs.laws.Replaced.{first-where, place-below}
 use Rattle.proof_requests_sound.specs.Verdicts.{Has, has, has-onDone}
 use Rattle.proof_requests_sound.specs.Uses.{Usable, usable-acting}
 

@@ -13,9 +13,9 @@ use Rattle.combine.specs.Lists.{any}
 use Rattle.rules.specs.Headings.{Handle, passes}
 use Rattle.rules.specs.House.{opensPlace, worksPlace}
 use Rattle.segments.specs.laws.Sound.{Single, Alone}
-use Rattle.proof_requests_sound.specs.Tests.{and-first, and-second}
-use Rattle.proof_requests_sound.specs.Sums.{any-at}
-use Rattle.proof_requests_sound.specs.Lists.{either}
+use Rattle.combine.specs.laws.Tests.{and-first, and-second}
+use Rattle.combine.specs.laws.Sums.{any-at}
+use Rattle.combine.specs.laws.Replaced.{either}
 
 abbrev opens : ℕ → Option Handle → Bool
 opens p y = passes (opensPlace p) y

@@ -14,7 +14,7 @@ use Rattle.rules.specs.Headings.{Heading, headOf, handleOf, passes, isSome}
 use Rattle.rules.specs.House.{opensPlace}
 use Rattle.segments.specs.Free.{SegmentRecord, SegmentOpening, SegmentHouse, recordSegments, placeSegments}
 use Rattle.segments.specs.laws.Sound.{Placed, SoundEntry, SoundHouse}
-use Rattle.proof_requests_sound.specs.Tests.{and-intro}
+use Rattle.combine.specs.laws.Tests.{and-intro}
 use Rattle.proof_requests_sound.specs.Allowed.{PlaceOf, Filing}
 
 pub record Behind (rs : List (Option SegmentRecord)) (p : ℕ) (h : Heading) : Type 0 where

@@ -12,8 +12,8 @@ use lib.ListN.{length, getD, take, drop}
 use Rattle.combine.specs.Lists.{any, total, put, isIn}
 use Rattle.segments.specs.Free.{SegmentOpening, SegmentHouse, recordSegments, openingSegments, placeSegments, isFree}
 use Rattle.segments.specs.laws.Sound.{times, timesInRecord, timesBut, timesInOpening, mentions}
-use Rattle.proof_requests_sound.specs.Tests.{by-test, true-of, false-of, or-split, or-first, or-second, nor-first, nor-second, eqb-eq}
-use Rattle.proof_requests_sound.specs.Sums.{total-at, total-two, none-total}
+use Rattle.combine.specs.laws.Tests.{by-test, true-of, false-of, or-split, or-first, or-second, nor-first, nor-second, eqb-eq}
+use Rattle.combine.specs.laws.Sums.{total-at, total-two, none-total}
 
 -- ---- in one list
 

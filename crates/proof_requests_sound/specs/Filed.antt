@@ -17,9 +17,9 @@ use Rattle.rules.specs.Rules.{isOwn, isPublic, headed, without}
 use Rattle.rules.specs.House.{house}
 use Rattle.segments.specs.Free.{SegmentRecord, SegmentOpening, SegmentHouse, recordSegments, placeSegments}
 use Rattle.segments.specs.laws.Sound.{times, timesInRecord, timesBut, timesInOpening, SoundPlace, SoundOpen, SoundEntry, OneStretch, Tied, Placed, SoundHouse}
-use Rattle.proof_requests_sound.specs.Tests.{by-test, true-of, false-of, and-first, and-second, not-not}
-use Rattle.proof_requests_sound.specs.Sums.{any-at}
-use Rattle.proof_requests_sound.specs.Lists.{at-set, map-set, place-below}
+use Rattle.combine.specs.laws.Tests.{by-test, true-of, false-of, and-first, and-second, not-not}
+use Rattle.combine.specs.laws.Sums.{any-at}
+use Rattle.combine.specs.laws.Replaced.{at-set, map-set, place-below}
 use Rattle.proof_requests_sound.specs.Names.{name-of-title}
 use Rattle.proof_requests_sound.specs.Allowed.{PlaceOf, Filing}
 use Rattle.proof_requests_sound.specs.Counts.{times-some}

@@ -13,7 +13,7 @@ use Rattle.rules.specs.Rules.{isOwn, isPublic}
 use Rattle.rules.specs.House.{worksPlace, freshHouse}
 use Rattle.segments.specs.Free.{SegmentRecord, SegmentOpening}
 use Rattle.segments.specs.laws.Sound.{timesInRecord, timesInOpening, Single, SoundHouse}
-use Rattle.proof_requests_sound.specs.Lists.{replicate-at}
+use Rattle.combine.specs.laws.Replaced.{replicate-at}
 
 total-none : {A : Type 0} (f : Option A → ℕ) (n : ℕ) → f none ≡ 0 → total f (replicate n none) ≡ 0
 total-none f zero e = refl

@@ -1,13 +1,9 @@
 -- Every request leaves sound records and openings sound. Assumes nothing.
-pub mod Tests
-pub mod Sums
-pub mod Lists
 pub mod Names
 pub mod Verdicts
 pub mod Uses
 pub mod Allowed
 pub mod Counts
-pub mod Held
 pub mod Taken
 pub mod Alone
 pub mod Away

@@ -16,8 +16,8 @@ use Rattle.rules.specs.Headings.{handleOf, passes}
 use Rattle.rules.specs.House.{house, opensPlace}
 use Rattle.segments.specs.Free.{SegmentRecord, SegmentOpening, SegmentHouse, placeSegments, isFree}
 use Rattle.segments.specs.laws.Sound.{times, timesInRecord, timesBut, timesInOpening, mentions, OneStretch}
-use Rattle.proof_requests_sound.specs.Tests.{eqb-ne, eqb-eq}
-use Rattle.proof_requests_sound.specs.Sums.{total-set, total-alike}
+use Rattle.combine.specs.laws.Tests.{eqb-ne, eqb-eq}
+use Rattle.combine.specs.laws.Sums.{total-set, total-alike}
 use Rattle.proof_requests_sound.specs.Counts.{times-put, but-less, in-where, free-unlisted}
 use Rattle.proof_requests_sound.specs.Away.{Away, segments-away}
 

@@ -13,8 +13,8 @@ use Rattle.combine.specs.Below.{allBelow}
 use Rattle.combine.specs.laws.Below.{all-at, all-make, or-left, or-right, not-both}
 use Rattle.combine.specs.Rows.{allOf}
 use Rattle.names.specs.Names.{isSkipped, isDigit, isLetter, symbolsOf, nameOf, scratchName, isScratch, follows, nameb, openingNameb}
-use Rattle.proof_requests_sound.specs.Tests.{by-test, and-second}
-use Rattle.proof_requests_sound.specs.Lists.{replicate-at}
+use Rattle.combine.specs.laws.Tests.{by-test, and-second}
+use Rattle.combine.specs.laws.Replaced.{replicate-at}
 
 -- ---- symbols are 0 to 35
 

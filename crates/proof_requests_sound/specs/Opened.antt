@@ -17,12 +17,12 @@ use Rattle.rules.specs.Levels.{perform}
 use Rattle.segments.specs.Free.{SegmentRecord, SegmentOpening, SegmentHouse, recordSegments, hasRoom}
 use Rattle.segments.specs.Deeds.{segmentLevel}
 use Rattle.segments.specs.laws.Sound.{times, timesInRecord, mentions, SoundFiled, SoundPlace, SoundOpen, SoundEntry, Tied, Alone, SoundHouse}
-use Rattle.proof_requests_sound.specs.Sums.{total-at}
-use Rattle.proof_requests_sound.specs.Lists.{at-set, replicate-at, map-set}
+use Rattle.combine.specs.laws.Sums.{total-at}
+use Rattle.combine.specs.laws.Replaced.{at-set, replicate-at, map-set}
 use Rattle.proof_requests_sound.specs.Names.{title-of-scratch, twelve-of-scratch, title-of-name}
 use Rattle.proof_requests_sound.specs.Allowed.{Old, Opens, a-new, an-old}
 use Rattle.proof_requests_sound.specs.Counts.{times-two, but-own, but-none}
-use Rattle.proof_requests_sound.specs.Held.{held-none}
+use Rattle.placing.specs.laws.Held.{held-none}
 use Rattle.proof_requests_sound.specs.Away.{Behind, behind}
 use Rattle.proof_requests_sound.specs.Alone.{alone-end, alone-work, alone-read, alone-none}
 use Rattle.proof_requests_sound.specs.Listed.{once-entry}

@@ -9,8 +9,8 @@ use lib.ListN.{length, getD, take, drop, length-take, length-drop}
 use lib.Seq.{getD-take, getD-drop}
 use Rattle.combine.specs.Lists.{put}
 use Rattle.combine.specs.laws.Numbers.{le-or-lt}
-use Rattle.store.specs.laws.Lists.{getD-put-same, getD-put-other}
-use Rattle.proof_requests_sound.specs.Lists.{length-put-in, length-put-end}
+use Rattle.combine.specs.laws.Put.{getD-put-same, getD-put-other}
+use Rattle.combine.specs.laws.Replaced.{length-put-in, length-put-end}
 
 abbrev pub InRange : ℕ → List ℕ → Type 0
 InRange n l = (k : ℕ) → k < length l → getD l k 0 < n

@@ -18,8 +18,8 @@ use Rattle.rules.specs.Levels.{perform}
 use Rattle.segments.specs.Free.{SegmentOpening, SegmentHouse, placeSegments, lowestFree, hasRoom}
 use Rattle.segments.specs.Deeds.{lacks, segmentAt, sharesAt, takesAt, target, segmentsAfter, segmentLevel}
 use Rattle.segments.specs.laws.Sound.{times, mentions, SoundHouse}
-use Rattle.proof_requests_sound.specs.Tests.{nor-first}
-use Rattle.proof_requests_sound.specs.Lists.{put-same}
+use Rattle.combine.specs.laws.Tests.{nor-first}
+use Rattle.combine.specs.laws.Replaced.{put-same}
 use Rattle.proof_requests_sound.specs.Uses.{Usable, asks, renames, moves, first, last, replaces, appends}
 use Rattle.proof_requests_sound.specs.Allowed.{Handles, an-end, a-freeing, a-filing, a-use}
 use Rattle.proof_requests_sound.specs.Counts.{times-take, times-drop, but-less}

@@ -19,10 +19,10 @@ use Rattle.segments.specs.Free.{SegmentRecord, SegmentOpening, SegmentHouse, re
 use Rattle.segments.specs.Deeds.{takesAt, target}
 use Rattle.segments.specs.laws.Sound.{SoundFile, SoundOpen, OneStretch}
 use Rattle.proof_requests_sound.specs.Uses.{Usable, asks, renames, moves, first, last, replaces, appends}
-use Rattle.store.specs.laws.Lists.{getD-put-same, getD-put-other}
-use Rattle.proof_requests_sound.specs.Lists.{length-put-in, length-put-end}
+use Rattle.combine.specs.laws.Put.{getD-put-same, getD-put-other}
+use Rattle.combine.specs.laws.Replaced.{length-put-in, length-put-end}
 use Rattle.proof_requests_sound.specs.Counts.{in-at}
-use Rattle.proof_requests_sound.specs.Held.{near-inside, near-end, held-append, held-grows}
+use Rattle.placing.specs.laws.Held.{slot-within, slot-at-end, held-behind, held-grows}
 use Rattle.proof_requests_sound.specs.Taken.{Target}
 use Rattle.proof_requests_sound.specs.Tied.{value-here, value-else, placeOr0}
 use Rattle.proof_requests_sound.specs.Ranges.{put-inside, range-put}
@@ -83,7 +83,7 @@ module _ (h : SegmentHouse) (i u : ℕ) (x : SegmentOpening) (f : SoundOpen (h .
       let v = value old p in
       let v0 : value (moved old p (v + 1)) 0 ≡ begin = value-else old p (v + 1) 0 (λ z. p0 (sym z)) in
       let v1 : value (moved old p (v + 1)) 1 ≡ end = value-else old p (v + 1) 1 (λ z. p1 (sym z)) in
-      let near : slotIn old v < length (x .content) = rw (f .file .each) (near-inside species (f .file .species) begin end (f .file .first) v l r) in
+      let near : slotIn old v < length (x .content) = rw (f .file .each) (slot-within species (f .file .species) begin (f .file .first) end v l r) in
       kept-work h u x f p (v + 1) (stores v n) w (λ e. omega arith) (omega (arith, f .file .last))
       (subst (λ (e : ℕ). SoundFile (h .segments) species (value (moved old p (v + 1)) 0) e (put (x .content) (slotIn old v) (target h x v))) (sym v1)
       (stored-file v (omega arith) g _ end v0 (f .file .order) (f .file .last) (f .file .few)
@@ -97,9 +97,9 @@ module _ (h : SegmentHouse) (i u : ℕ) (x : SegmentOpening) (f : SoundOpen (h .
       let j = slotIn old end in
       let v0 : value (moved old 1 (end + 1)) 0 ≡ begin = value-else old 1 (end + 1) 0 (λ z. omega arith) in
       let v1 : value (moved old 1 (end + 1)) 1 ≡ end + 1 = value-here old 1 (end + 1) (omega (arith, f .eight)) in
-      let near : j ≤ length (x .content) = rw (f .file .each) (near-end species (f .file .species) begin end (f .file .first) l) in
-      let grows : length (x .content) ≤ j + 1 = rw (f .file .each) (held-grows species (f .file .species) begin end (f .file .first) l) in
-      let held : heldOf species begin (end + 1) ≡ j + 1 = held-append species (f .file .species) begin end (f .file .first) l in
+      let near : j ≤ length (x .content) = rw (f .file .each) (slot-at-end species (f .file .species) begin (f .file .first) end l) in
+      let grows : length (x .content) ≤ j + 1 = rw (f .file .each) (held-grows species (f .file .species) begin (f .file .first) end l) in
+      let held : heldOf species begin (end + 1) ≡ j + 1 = held-behind species (f .file .species) begin (f .file .first) end l in
       let each : length (put (x .content) j (target h x end)) ≡ heldOf species begin (end + 1) = ⊎-elim
       (λ p. omega (arith, length-put-end (x .content) j (target h x end) p))
       (λ p. omega (arith, length-put-in (x .content) j (target h x end) p))

@@ -14,8 +14,8 @@ use Rattle.rules.specs.Headings.{slotIn}
 use Rattle.segments.specs.Free.{SegmentOpening, SegmentHouse, recordSegments, openingSegments, placeSegments, isFree, lowestFree, hasRoom}
 use Rattle.segments.specs.Deeds.{lacks, segmentAt, sharesAt, takesAt, target}
 use Rattle.segments.specs.laws.Sound.{times, timesInOpening, mentions}
-use Rattle.proof_requests_sound.specs.Tests.{false-of, nor-first, nor-second}
-use Rattle.proof_requests_sound.specs.Sums.{total-at, not-any}
+use Rattle.combine.specs.laws.Tests.{false-of, nor-first, nor-second}
+use Rattle.combine.specs.laws.Sums.{total-at, not-any}
 use Rattle.proof_requests_sound.specs.Counts.{times-at, times-two, in-at, own-record, own-opening}
 
 -- ---- "A taken segment is always the lowest-numbered free one"

@@ -14,7 +14,7 @@ use Rattle.placing.specs.Sizes.{greatestEnd}
 use Rattle.rules.specs.Headings.{Handle, value, moved}
 use Rattle.segments.specs.Free.{SegmentRecord, SegmentOpening}
 use Rattle.segments.specs.laws.Sound.{OneStretch, Tied, Placed}
-use Rattle.proof_requests_sound.specs.Lists.{either}
+use Rattle.combine.specs.laws.Replaced.{either}
 
 -- ---- pointer p moves to v
 

@@ -19,7 +19,7 @@ use Rattle.segments.specs.Free.{SegmentRecord, SegmentOpening, SegmentHouse}
 use Rattle.segments.specs.Deeds.{segmentsAfter}
 use Rattle.segments.specs.laws.Sound.{SoundFile, SoundOpen, OneStretch}
 use Rattle.proof_requests_sound.specs.Names.{title-of-bytes, twelve-of-bytes}
-use Rattle.proof_requests_sound.specs.Held.{held-none, held-first, dropped, held-last}
+use Rattle.placing.specs.laws.Held.{held-none, held-from-next, dropped, held-to-last}
 use Rattle.proof_requests_sound.specs.Tied.{value-here, value-else, points-kept, works-kept, placeOr0, placed-still, placed-work}
 use Rattle.proof_requests_sound.specs.Ranges.{range-take, range-drop}
 
@@ -91,7 +91,7 @@ module _ (h : SegmentHouse) (u : ℕ) (x : SegmentOpening) (f : SoundOpen (h .se
       let v0 : value n 0 ≡ begin + 1 = value-here old 0 (begin + 1) (omega (arith, f .eight)) in
       let v1 : value n 1 ≡ end = value-else old 0 (begin + 1) 1 (λ z. omega arith) in
       let hh : holds n ≡ heldOf species (begin + 1) end = ap₂ (heldOf species) v0 v1 in
-      let le : heldOf species (begin + 1) end ≤ heldOf species begin end = held-first species (f .file .species) begin end (f .file .first) l in
+      let le : heldOf species (begin + 1) end ≤ heldOf species begin end = held-from-next species (f .file .species) begin (f .file .first) end l .0 in
       let ll : length (drop some-dropped (x .content)) ≡ heldOf species (begin + 1) end = omega (arith, length-drop some-dropped (x .content), f .file .each, hh, le) in
       kept-work 0 (begin + 1) firstLeaves w (λ z. omega arith) (omega (arith, f .file .last))
       (subst₂ (λ (b e : ℕ). SoundFile (h .segments) species b e (drop some-dropped (x .content))) (sym v0) (sym v1)
@@ -108,7 +108,7 @@ module _ (h : SegmentHouse) (u : ℕ) (x : SegmentOpening) (f : SoundOpen (h .se
       (λ p. absurd (omega (arith, ll, jl, held-none species (begin + 1) end p)))
       (λ p.
       let st : stretchOf species (value n 0) ≡ stretchOf species (begin + 1) = ap (stretchOf species) v0 in
-      let dr = dropped species (f .file .species) begin end (f .file .first) p in
+      let dr = dropped species (f .file .species) begin (f .file .first) end (omega arith) p in
       let at : stretchOf species begin + (some-dropped + j) ≡ stretchOf (r .head .species) (r .head .begin) + k =
       o (some-dropped + j) k (omega (arith, length-drop some-dropped (x .content))) kl (sym (getD-drop some-dropped (x .content) j 0) ∙ q) in
       omega (arith, st, dr, hh, f .file .each, stretch-mono species (f .file .species) begin (begin + 1) (omega arith)))
@@ -120,7 +120,7 @@ module _ (h : SegmentHouse) (u : ℕ) (x : SegmentOpening) (f : SoundOpen (h .se
       let v0 : value n 0 ≡ begin = value-else old 1 (end - 1) 0 (λ z. omega arith) in
       let v1 : value n 1 ≡ end - 1 = value-here old 1 (end - 1) (omega (arith, f .eight)) in
       let hh : holds n ≡ heldOf species begin (end - 1) = ap₂ (heldOf species) v0 v1 in
-      let le : heldOf species begin (end - 1) ≤ heldOf species begin end = held-last species (f .file .species) begin end (f .file .first) l in
+      let le : heldOf species begin (end - 1) ≤ heldOf species begin end = held-to-last species (f .file .species) begin (f .file .first) end l .0 in
       let ll : length (take (holds n) (x .content)) ≡ heldOf species begin (end - 1) = omega (arith, length-take (holds n) (x .content), f .file .each, hh, le) in
       kept-work 1 (end - 1) lastLeaves w (λ z. omega arith) (omega (arith, f .file .last))
       (subst₂ (λ (b e : ℕ). SoundFile (h .segments) species b e (take (holds n) (x .content))) (sym v0) (sym v1)

@@ -16,7 +16,7 @@ use Rattle.rules.specs.Calls.{Act, rename, reset, newPointer, deletePointer, wr
 use Rattle.rules.specs.Headings.{Handle, value, moved, named}
 use Rattle.rules.specs.Effects.{stays, firstLeaves, lastLeaves, stores, Delivered, plain, element, Use, does}
 use Rattle.rules.specs.Access.{writeRule, nextRule, prevRule, newPointerRule, deletePointerRule, valueRule, renameRule, acting}
-use Rattle.proof_requests_sound.specs.Tests.{not-not, nor-second, at-eq}
+use Rattle.combine.specs.laws.Tests.{not-not, nor-second, at-eq}
 use Rattle.proof_requests_sound.specs.Verdicts.{Has, has}
 
 -- an element that is told lies in the file

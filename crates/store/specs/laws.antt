@@ -1,4 +1,3 @@
 -- The laws of this crate's definitions, which other crates cite. Assumes nothing.
-pub mod Lists
 pub mod Elements
 pub mod Files

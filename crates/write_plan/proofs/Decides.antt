@@ -23,7 +23,7 @@ use Rattle.tables.specs.Fields.{valueOf}
 use Rattle.tables.specs.Handles.{handleIn, pointed}
 use Rattle.tables.specs.laws.Pointers.{value-in, value-some}
 use Rattle.cells.specs.Says.{openingIn, houseOf}
-use Rattle.opening_laws.specs.Held.{place-within, place-at-end, held-behind}
+use Rattle.placing.specs.laws.Held.{slot-within, slot-at-end, held-behind}
 use Rattle.opening_steps.specs.Spans.{Spans, end-spans, end-holds}
 use Rattle.call_next_prev.specs.Known.{Known}
 use Rattle.write_plan.specs.declared.Plan.{Plan}
@@ -77,7 +77,7 @@ module _ (t : List ℕ) (o : Opening) (e : ℕ) (ee : e ≡ valueOf o 1) where
             known = omega arith;
             low = f .order;
             high = f .last;
-            listed = place-at-end (o .species) (f .species) (valueOf o 0) (f .first) (valueOf o 1) (f .order);
+            listed = slot-at-end (o .species) (f .species) (valueOf o 0) (f .first) (valueOf o 1) (f .order);
             small = omega (arith, held-is, held-behind (o .species) (f .species) (valueOf o 0) (f .first) (valueOf o 1) (f .order));
           }
 
@@ -95,7 +95,7 @@ pub inner-seats : (t : List ℕ) (o : Opening) (p : ℕ) → Known t o → value
 inner-seats t o p w low high =
     let f = w .file in
     let k = value-some o p (f .pointers8) (λ q. omega arith) in
-    let l = place-within (o .species) (f .species) (valueOf o 0) (f .first) (valueOf o 1) (valueOf o p) low high in
+    let l = slot-within (o .species) (f .species) (valueOf o 0) (f .first) (valueOf o 1) (valueOf o p) low high in
     record { known = omega arith; low = low; high = omega arith; listed = omega arith; small = omega arith }
 
 -- ---- the whole chain: v, b and e are the values of the pointer, of the begin and of the end

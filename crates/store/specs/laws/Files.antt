@@ -14,7 +14,7 @@ use Rattle.placing.specs.Sizes.{greatestSpecies, widthOf}
 use Rattle.placing.specs.Placing.{segment, position, stretchOf, slotOf}
 use Rattle.placing.specs.laws.Sized.{stretch-mono}
 use Rattle.store.specs.Store.{elementAt, putElement, zeroed, copied, segmentOf, elementsIn}
-use Rattle.store.specs.laws.Lists.{tab-first, tab-last, put-within, getD-put-same, getD-put-other}
+use Rattle.combine.specs.laws.Put.{tab-first, tab-last, put-within, getD-put-same, getD-put-other}
 use Rattle.store.specs.laws.Elements.{Within, Outside, element-elsewhere, put-same, put-beside, put-elsewhere, zeroed-elsewhere, copied-element, copied-elsewhere}
 
 -- the element at position x of the file

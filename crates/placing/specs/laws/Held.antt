@@ -30,19 +30,19 @@ module _ (s : ℕ) (h : s ≤ greatestSpecies) where
       ap (λ (y : ℕ). y / elementsOf s) e ∙ add-div-right (x - 1) {k = elementsOf s} (omega arith)
 
   -- the next position is in the same stretch, or in the next
-  pub stretch-next : (x : ℕ) → 1 ≤ x → stretchOf s (x + 1) ≤ stretchOf s x + 1
+  stretch-next : (x : ℕ) → 1 ≤ x → stretchOf s (x + 1) ≤ stretchOf s x + 1
   stretch-next x l = omega (arith, stretch-far x l, stretch-mono s h (x + 1) (x + elementsOf s) (let m = elements-many s h in omega arith))
 
   module _ (b : ℕ) (first : 1 ≤ b) where
-    -- a position of the file has a place in its list
-    pub place-within : (e x : ℕ) → b ≤ x → x < e → slotOf s b x < heldOf s b e
+    -- a position of the file has a slot in its list
+    pub slot-within : (e x : ℕ) → b ≤ x → x < e → slotOf s b x < heldOf s b e
     unfolding slotOf
-    place-within e x l m = omega (arith, held-some s b e (omega arith), stretch-mono s h b x l, stretch-mono s h x (e - 1) (omega arith))
+    slot-within e x l m = omega (arith, held-some s b e (omega arith), stretch-mono s h b x l, stretch-mono s h x (e - 1) (omega arith))
 
-    -- the position after the last has the last place, or the next
-    pub place-at-end : (e : ℕ) → b ≤ e → slotOf s b e ≤ heldOf s b e
+    -- the position after the last has the last slot, or the next
+    pub slot-at-end : (e : ℕ) → b ≤ e → slotOf s b e ≤ heldOf s b e
     unfolding slotOf
-    place-at-end e l = ⊎-elim (λ q. empty q) (λ q. some q) (le-or-lt e b)
+    slot-at-end e l = ⊎-elim (λ q. empty q) (λ q. some q) (le-or-lt e b)
       where
         empty : e ≤ b → stretchOf s e - stretchOf s b ≤ heldOf s b e
         empty q = omega (arith, held-none s b e q, stretch-mono s h e b q)
@@ -87,8 +87,26 @@ module _ (s : ℕ) (h : s ≤ greatestSpecies) where
           let p : e - 1 + 1 ≡ e = omega arith in
           let f = ap (heldOf s b) p in
           let g = held-behind (e - 1) (omega arith) in
-          let a = place-at-end (e - 1) (omega arith) in
+          let a = slot-at-end (e - 1) (omega arith) in
           (⊎-elim (λ q. omega (arith, held-none s b (e - 1) q)) (λ q. inner q) (le-or-lt (e - 1) b), omega arith)
         where
           inner : b < e - 1 → heldOf s b (e - 1) ≤ heldOf s b e
           inner q = omega (arith, held-some s b (e - 1) q, held-some s b e some, stretch-mono s h (e - 1 - 1) (e - 1) (omega arith))
+
+      -- how many stretches are dropped with the first element
+      pub dropped : b + 1 < e → heldOf s b e - heldOf s (b + 1) e ≡ stretchOf s (b + 1) - stretchOf s b
+      dropped q =
+          omega (
+            arith,
+            held-some s b e some,
+            held-some s (b + 1) e q,
+            stretch-mono s h b (b + 1) (omega arith),
+            stretch-mono s h (b + 1) (e - 1) (omega arith),
+          )
+
+    pub held-grows : (e : ℕ) → b ≤ e → heldOf s b e ≤ slotOf s b e + 1
+    unfolding slotOf
+    held-grows e l = ⊎-elim
+        (λ q. omega (arith, held-none s b e q))
+        (λ q. omega (arith, held-some s b e q, stretch-mono s h (e - 1) e (omega arith)))
+        (le-or-lt e b)

@@ -10,8 +10,8 @@ use mathlib.Core.List.{List, [], _∷_, map}
 use lib.Dec.{T}
 use lib.ListN.{length, getD, set, replicate, length-set, length-append}
 use lib.Seq.{getD-set-same, getD-set-other, set-getD}
 use Rattle.combine.specs.Lists.{put, firstWhere}
-use Rattle.store.specs.laws.Lists.{put-within, put-at-end}
+use Rattle.combine.specs.laws.Put.{put-within, put-at-end}
 
 module _ {A : Type 0} where
   -- what is stored, or what was there

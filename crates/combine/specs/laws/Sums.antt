@@ -8,8 +8,8 @@ use mathlib.Core.Bool.{Bool, not}
 use mathlib.Core.List.{List, [], _∷_}
 use lib.Dec.{T, T-not, not-T}
 use lib.ListN.{length, getD, set}
 use Rattle.combine.specs.Lists.{any, total}
-use Rattle.proof_requests_sound.specs.Tests.{or-first, or-second, nor-first, nor-second}
+use Rattle.combine.specs.laws.Tests.{or-first, or-second, nor-first, nor-second}
 
 module _ {A : Type 0} where
   -- an element is counted in the sum, and so are two
