@@ -236,15 +236,15 @@ fn run(
 }
 
 fn main() {
-    let mut store = [0u32; 65600];
-    let mut tables = [0u32; 5057];
-    let mut images = [0u32; 4096];
+    let mut store = [0u32; history_desk::sizes::STORE_BUFFER];
+    let mut tables = [0u32; history_desk::sizes::TABLES_BUFFER];
+    let mut images = [0u32; history_desk::sizes::IMAGES_BUFFER];
     let mut text = [0u8; 65808];
     let mut input = [0u8; 65536];
     let filled = Filled {
         line: 0,
         out: 0,
-        lengths: [65536, 4993, 897, 897, 897, 897],
+        lengths: history_desk::sizes::LENT,
     };
     run(
         &mut store,
