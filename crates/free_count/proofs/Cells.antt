@@ -8,6 +8,7 @@ use native.Mathlib.Omega.{arith}
 use lib.Dec.{eqb}
 use lib.ListN.{length, getD, take, drop}
 use Rattle.combine.specs.Lists.{part}
+use Rattle.placing.specs.Sizes.{lists}
 use Rattle.placing.specs.Placing.{heldOf}
 use Rattle.tables.specs.Layout.{recordBase, openingBase}
 use Rattle.tables.specs.Fields.{heldByRecord, heldByOpening}
@@ -30,7 +31,7 @@ pub lent-row : (t : List ℕ) (i s c : ℕ) → s ≡ startOf i → c ≡ heldIn
 unfolding rowOf
 lent-row t i s c es ec = lent-part t s c ∙ (λ j. part t (es j) (ec j))
 
-pub lent-fits : (t : List ℕ) → Ranged t → (i s c : ℕ) → i < 96 → s ≡ startOf i → c ≡ heldIn t i → s + c ≤ length t
+pub lent-fits : (t : List ℕ) → Ranged t → (i s c : ℕ) → i < lists → s ≡ startOf i → c ≡ heldIn t i → s + c ≤ length t
 lent-fits t w i s c l es ec = let f = row-fits t w i l in omega arith
 
 -- ---- held segments
@@ -52,7 +53,7 @@ module _ (t : List ℕ) (i : ℕ) (l : 64 ≤ i) where
       let same : i ≡ 64 + o = omega arith in
       e ∙ sym (ap (heldIn t) same ∙ list.opening-held t o ∙ (λ j. cond (eqb (cells.opened-cell t o j) 0) 0 (heldOf (cells.opening-species-cell t o j) (cells.opening-begin-cell t o j) (cells.opening-end-cell t o j))))
 
-  pub extent-opening : Ranged t → i < 96 → (getD t (openingBase (i - 64)) 0 ≡ 0 → ⊥) → SoundExtent (getD t (openingBase (i - 64) + 3) 0) (getD t (openingBase (i - 64) + 4) 0) (getD t (openingBase (i - 64) + 5) 0)
+  pub extent-opening : Ranged t → i < lists → (getD t (openingBase (i - 64)) 0 ≡ 0 → ⊥) → SoundExtent (getD t (openingBase (i - 64) + 3) 0) (getD t (openingBase (i - 64) + 4) 0) (getD t (openingBase (i - 64) + 5) 0)
   extent-opening w h d =
       let o : ℕ = i - 64 in
       subst₃ SoundExtent (cells.opening-species-cell t o) (cells.opening-begin-cell t o) (cells.opening-end-cell t o) (opening-at t w o (omega arith) d .extent)

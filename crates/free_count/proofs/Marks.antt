@@ -13,7 +13,7 @@ use Rattle.combine.specs.laws.Replaced.{replicate-at}
 use Rattle.combine.specs.Below.{allBelow, countBelow}
 use Rattle.combine.specs.laws.Below.{all-zero, all-suc}
 use Rattle.combine.specs.Lists.{isIn}
-use Rattle.placing.specs.Sizes.{mostSegments}
+use Rattle.placing.specs.Sizes.{mostSegments, lists}
 use Rattle.segments.specs.Free.{isFree, freeCount}
 use Rattle.tables.specs.Layout.{segmentsIn}
 use Rattle.tables.specs.Lists.{heldIn}
@@ -58,7 +58,7 @@ mark-one marks x g l = go (ℕ-discrete g x)
 abbrev pub notIn : List ℕ → ℕ → ℕ → Bool
 notIn t g i = not (isIn g (rowOf t i))
 
-module _ (t : List ℕ) (w : Ranged t) (i : ℕ) (l : i < 96) where
+module _ (t : List ℕ) (w : Ranged t) (i : ℕ) (l : i < lists) where
   row-low : (k : ℕ) → k < length (rowOf t i) → getD (rowOf t i) k 0 < mostSegments
   row-low k h =
       let m : k < heldIn t i = let e = length-row t w i l in omega arith in

@@ -15,6 +15,7 @@ use Rattle.combine.specs.Below.{allBelow}
 use Rattle.combine.specs.laws.Below.{all-at, all-make, all-bad, all-cong}
 use Rattle.combine.specs.Lists.{isIn, tab, part, any}
 use Rattle.combine.specs.laws.Any.{not-or, not-in}
+use Rattle.placing.specs.Sizes.{lists}
 use Rattle.placing.specs.Placing.{segment}
 use Rattle.segments.specs.Free.{SegmentRecord, SegmentOpening, recordSegments, openingSegments, isFree}
 use Rattle.tables.specs.Layout.{segmentNumber, segmentsIn, recordBase, openingBase, recordAt, recordOf, openingAt, openingOf}
@@ -91,7 +92,7 @@ module _ (t : List ℕ) (w : Ranged t) where
   -- ---- the bridge
 
   module _ (g : ℕ) where
-    pub free-rows : isFree (houseOf t) g ≡ allBelow 96 (λ i. not (isIn g (rowOf t i)))
+    pub free-rows : isFree (houseOf t) g ≡ allBelow lists (λ i. not (isIn g (rowOf t i)))
     unfolding isFree houseOf
     free-rows =
         not-or (any (λ r. isIn g (recordSegments r)) (tab 64 (λ p. decodedRecord (recordAt t p)))) (any (λ x. isIn g (openingSegments x)) (tab 32 (λ i. decodedOpening (openingAt t i))))
@@ -104,22 +105,22 @@ module _ (t : List ℕ) (w : Ranged t) where
         entered : not (any (λ x. isIn g (openingSegments x)) (tab 32 (λ i. decodedOpening (openingAt t i)))) ≡ allBelow 32 (λ i. not (isIn g (rowOf t (64 + i))))
         entered = none-tab (λ x. isIn g (openingSegments x)) 32 _ none ∙ all-cong _ _ 32 (λ i l. ap (λ (x : List ℕ). not (isIn g x)) (opening-row i l))
 
-    row-below : (i : ℕ) → i < 96 → not (isIn g (rowOf t i)) ≡ allBelow (heldIn t i) (λ k. not (eqb g (listed t i k)))
+    row-below : (i : ℕ) → i < lists → not (isIn g (rowOf t i)) ≡ allBelow (heldIn t i) (λ k. not (eqb g (listed t i k)))
     row-below i l =
         not-in g (rowOf t i) ∙ ap (λ (n : ℕ). allBelow n (λ k. not (eqb g (getD (rowOf t i) k 0)))) (length-row t w i l)
         ∙ all-cong _ _ (heldIn t i) (λ k h. ap (λ (x : ℕ). not (eqb g x)) (row-at t w i l k h))
 
-    pub free-below : isFree (houseOf t) g ≡ allBelow 96 (λ i. allBelow (heldIn t i) (λ k. not (eqb g (listed t i k))))
-    free-below = free-rows ∙ all-cong _ _ 96 row-below
+    pub free-below : isFree (houseOf t) g ≡ allBelow lists (λ i. allBelow (heldIn t i) (λ k. not (eqb g (listed t i k))))
+    free-below = free-rows ∙ all-cong _ _ lists row-below
 
-    pub free-unlisted : isFree (houseOf t) g ≡ true → (i k : ℕ) → i < 96 → k < heldIn t i → listed t i k ≢ g
+    pub free-unlisted : isFree (houseOf t) g ≡ true → (i k : ℕ) → i < lists → k < heldIn t i → listed t i k ≢ g
     free-unlisted f i k li lk e =
-        eqb-false g (listed t i k) (not-true (eqb g (listed t i k)) (all-at _ (heldIn t i) (all-at _ 96 (sym free-below ∙ f) i li) k lk)) (sym e)
+        eqb-false g (listed t i k) (not-true (eqb g (listed t i k)) (all-at _ (heldIn t i) (all-at _ lists (sym free-below ∙ f) i li) k lk)) (sym e)
 
-    pub unlisted-free : ((i k : ℕ) → i < 96 → k < heldIn t i → listed t i k ≢ g) → isFree (houseOf t) g ≡ true
+    pub unlisted-free : ((i k : ℕ) → i < lists → k < heldIn t i → listed t i k ≢ g) → isFree (houseOf t) g ≡ true
     unlisted-free d =
-        free-below ∙ all-make _ 96 (λ i li. all-make _ (heldIn t i) (λ k lk. ap not (ne-eqb g (listed t i k) (λ e. d i k li lk (sym e)))))
+        free-below ∙ all-make _ lists (λ i li. all-make _ (heldIn t i) (λ k lk. ap not (ne-eqb g (listed t i k) (λ e. d i k li lk (sym e)))))
 
-    pub listed-taken : (i k : ℕ) → i < 96 → k < heldIn t i → listed t i k ≡ g → isFree (houseOf t) g ≡ false
+    pub listed-taken : (i k : ℕ) → i < lists → k < heldIn t i → listed t i k ≡ g → isFree (houseOf t) g ≡ false
     listed-taken i k li lk e =
-        free-below ∙ all-bad _ 96 i li (all-bad _ (heldIn t i) k lk (ap not (eq-eqb g (listed t i k) (sym e))))
+        free-below ∙ all-bad _ lists i li (all-bad _ (heldIn t i) k lk (ap not (eq-eqb g (listed t i k) (sym e))))

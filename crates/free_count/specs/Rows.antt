@@ -13,7 +13,7 @@ use borrow.Author.Tests.{lt-ltb, le-ltb}
 use Rattle.combine.specs.laws.Numbers.{le-or-lt}
 use Rattle.combine.specs.Lists.{part}
 use Rattle.combine.specs.laws.Parts.{length-part, getD-part}
-use Rattle.placing.specs.Sizes.{tablesLength, mostHeld}
+use Rattle.placing.specs.Sizes.{tablesLength, mostHeld, lists, places}
 use Rattle.tables.specs.Layout.{recordBase, openingBase}
 use Rattle.tables.specs.Lists.{heldIn, listed}
 use Rattle.tables.specs.laws.Sound.{Ranged}
@@ -21,7 +21,7 @@ use Rattle.sound_lists.specs.ListCells.{record-number-cell, opening-number-cell
 use Rattle.sound_lists.specs.ListFacts.{list-facts}
 
 unfoldable pub startOf : ℕ → ℕ
-startOf i = cond (ltb i 64) (recordBase i + 18) (openingBase (i - 64) + 24)
+startOf i = cond (ltb i places) (recordBase i + 18) (openingBase (i - places) + 24)
 
 -- the numbers that list i holds
 unfoldable pub rowOf : List ℕ → ℕ → List ℕ
@@ -48,33 +48,33 @@ take-part t a h m l = take-take h m _ l
 -- ---- by a list's kind
 
 module _ (i : ℕ) where
-  pub start-record : i < 64 → startOf i ≡ recordBase i + 18
+  pub start-record : i < places → startOf i ≡ recordBase i + 18
   unfolding startOf
-  start-record l = simp (lt-ltb i 64 l)
+  start-record l = simp (lt-ltb i places l)
 
-  pub start-opening : 64 ≤ i → startOf i ≡ openingBase (i - 64) + 24
+  pub start-opening : places ≤ i → startOf i ≡ openingBase (i - places) + 24
   unfolding startOf
-  start-opening l = simp (le-ltb i 64 l)
+  start-opening l = simp (le-ltb i places l)
 
-  pub row-inside : i < 96 → startOf i + 32 ≤ tablesLength
+  pub row-inside : i < lists → startOf i + mostHeld ≤ tablesLength
   row-inside l =
-      ⊎-elim (λ h. let e = start-opening h in omega arith) (λ h. let e = start-record h in omega arith) (le-or-lt 64 i)
+      ⊎-elim (λ h. let e = start-opening h in omega arith) (λ h. let e = start-record h in omega arith) (le-or-lt places i)
 
 -- the kth number of list i is the kth cell of its row
 pub listed-cell : (t : List ℕ) (i k : ℕ) → k < mostHeld → listed t i k ≡ getD t (startOf i + k) 0
-listed-cell t i k l = ⊎-elim entered filed (le-or-lt 64 i)
+listed-cell t i k l = ⊎-elim entered filed (le-or-lt places i)
   where
-    filed : i < 64 → listed t i k ≡ getD t (startOf i + k) 0
+    filed : i < places → listed t i k ≡ getD t (startOf i + k) 0
     filed h = record-number-cell t i h k l ∙ ap (λ (a : ℕ). getD t (a + k) 0) (sym (start-record i h))
 
-    entered : 64 ≤ i → listed t i k ≡ getD t (startOf i + k) 0
+    entered : places ≤ i → listed t i k ≡ getD t (startOf i + k) 0
     entered h =
-        let e : i ≡ 64 + (i - 64) = omega arith in
-        ap (λ (j : ℕ). listed t j k) e ∙ opening-number-cell t (i - 64) k l ∙ ap (λ (a : ℕ). getD t (a + k) 0) (sym (start-opening i h))
+        let e : i ≡ places + (i - places) = omega arith in
+        ap (λ (j : ℕ). listed t j k) e ∙ opening-number-cell t (i - places) k l ∙ ap (λ (a : ℕ). getD t (a + k) 0) (sym (start-opening i h))
 
 -- ---- in `Ranged` tables
 
-module _ (t : List ℕ) (w : Ranged t) (i : ℕ) (li : i < 96) where
+module _ (t : List ℕ) (w : Ranged t) (i : ℕ) (li : i < lists) where
   pub row-fits : startOf i + heldIn t i ≤ length t
   row-fits = let l = w .0 in omega (arith, list-facts t w i li .held, row-inside i li)
 

@@ -8,6 +8,7 @@ use lib.ListN.{getD, take, drop}
 use Rattle.combine.specs.Below.{allBelow}
 use Rattle.combine.specs.laws.Below.{all-zero, all-more}
 use Rattle.combine.specs.Lists.{isIn}
+use Rattle.placing.specs.Sizes.{lists}
 use Rattle.segments.specs.Free.{isFree}
 use Rattle.tables.specs.laws.Sound.{Ranged}
 use Rattle.cells.specs.Says.{houseOf}
@@ -39,7 +40,7 @@ module _ (t : List ℕ) (n : ℕ) (starts counts : List ℕ) (first g : ℕ) (l 
             (ap (lacks t starts counts g) (sym (h .next)) ∙ ap not (ap (isIn g) (sym (lent-part t (getD starts row 0) (getD counts row 0))) ∙ e));
       }
 
-  pub scan-done : Ranged t → HeldRows t 96 n starts counts → (k row : ℕ) → n ≤ k → Scanned t n starts counts first g k row → isFree (houseOf t) g ≡ true
+  pub scan-done : Ranged t → HeldRows t lists n starts counts → (k row : ℕ) → n ≤ k → Scanned t n starts counts first g k row → isFree (houseOf t) g ≡ true
   scan-done w rows k row m h =
       let e : n ≡ k = omega (arith, h .few) in
       rows-free t w n starts counts rows g

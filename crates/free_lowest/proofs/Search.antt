@@ -20,6 +20,7 @@ use Rattle.combine.specs.Lists.{isIn, part}
 use Rattle.combine.specs.laws.Any.{byte-few}
 use Rattle.combine.specs.laws.Numbers.{le-or-lt}
 use Rattle.combine.specs.laws.Parts.{length-part}
+use Rattle.placing.specs.Sizes.{lists}
 use Rattle.segments.specs.Free.{isFree, lowestFree}
 use Rattle.tables.specs.Layout.{segmentsIn}
 use Rattle.tables.specs.Lists.{heldIn}
@@ -86,17 +87,17 @@ NoneFree t s = (g : ℕ) → g < s → isFree (houseOf t) g ≡ false
 abbrev pub lacks : List ℕ → List ℕ → List ℕ → ℕ → ℕ → Bool
 lacks t starts counts g q = not (isIn g (part t (getD starts q 0) (getD counts q 0)))
 
-module _ (t : List ℕ) (w : Ranged t) (n : ℕ) (starts counts : List ℕ) (h : HeldRows t 96 n starts counts) where
+module _ (t : List ℕ) (w : Ranged t) (n : ℕ) (starts counts : List ℕ) (h : HeldRows t lists n starts counts) where
   pub rows-fit : (q : ℕ) → q < n → getD starts q 0 + getD counts q 0 ≤ length t
   rows-fit q l =
       let z = w .0 in
       let all = h .every (λ a c. leb (a + c) (length t)) (λ j lj. le-leb (startOf j + 0) (length t) (omega (arith, row-inside j lj)))
-      ∙ all-make _ 96 (λ j lj. le-leb (startOf j + heldIn t j) (length t) (row-fits t w j lj)) in
+      ∙ all-make _ lists (λ j lj. le-leb (startOf j + heldIn t j) (length t) (row-fits t w j lj)) in
       leb-true (getD starts q 0 + getD counts q 0) (length t) (all-at _ n all q l)
 
   pub rows-short : (q : ℕ) → q < n → getD counts q 0 ≤ 32
   rows-short q l =
-      let all = h .every (λ a c. leb c 32) (λ j lj. refl) ∙ all-make _ 96 (λ j lj. le-leb (heldIn t j) 32 (list-facts t w j lj .held)) in
+      let all = h .every (λ a c. leb c 32) (λ j lj. refl) ∙ all-make _ lists (λ j lj. le-leb (heldIn t j) 32 (list-facts t w j lj .held)) in
       leb-true (getD counts q 0) 32 (all-at _ n all q l)
 
   -- as the code lends row q

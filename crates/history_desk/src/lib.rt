@@ -1,4 +1,6 @@
 // Every line of a history, over the buffers that it names. The four images lie in one slice, 1,024 cells each.
+use crate::sizes::IMAGE_BUFFER;
+use crate::sizes::IMAGES_BUFFER;
 use history_buffers::Answered;
 use history_calls::Reply;
 use history_lines::Buffer;
@@ -12,6 +14,8 @@ ghost use Rattle.history_calls.specs.Told.{told};
 ghost use Rattle.cells.specs.Outcomes.{lent};
 ghost use Rattle.history_buffers.specs.Buffers.{answering};
 ghost use Rattle.history_desk.specs.Desk.{lentCall, imaging, imageCall, imageLine, out, callLine, onBuffer, testLine, spokenOut, lineOut};
+
+pub mod sizes; // the sizes of the buffers
 
 // A call on what is lent of store and tables.
 fn call(store: &mut [u32], tables: &mut [u32], lengths: [u32; 6], line: &[u8]) -> Reply
@@ -36,14 +40,14 @@ fn image_call(
     if 3 < k {
         return Reply::Bad;
     }
-    if images.len() != 4096 {
+    if images.len() != IMAGES_BUFFER {
         return Reply::Bad;
     }
     let at = k as usize;
     let s = history_buffers::lent(lengths, 0, store.len());
     let t = history_buffers::lent(lengths, 1, tables.len());
-    let n = history_buffers::lent(lengths, 2 + at, 1024);
-    let from = 1024 * at;
+    let n = history_buffers::lent(lengths, 2 + at, IMAGE_BUFFER);
+    let from = IMAGE_BUFFER * at;
     let to = from + n;
     if saves {
         return history_calls::replied(call_save::save(
@@ -116,14 +120,14 @@ fn test_on(
                     lengths,
                 };
             }
-            if images.len() != 4096 {
+            if images.len() != IMAGES_BUFFER {
                 return Answered {
                     reply: Reply::Bad,
                     lengths,
                 };
             }
-            let from = 1024 * k;
-            let to = from + 1024;
+            let from = IMAGE_BUFFER * k;
+            let to = from + IMAGE_BUFFER;
             history_buffers::test(&mut images[from..to], lengths, 2 + k, word, numbers)
         }
         Buffer::Unknown => Answered {

@@ -17,7 +17,7 @@ use Rattle.combine.specs.laws.Rows.{each-of}
 use Rattle.combine.specs.Lists.{part}
 use Rattle.combine.specs.laws.Parts.{length-part, getD-part}
 use Rattle.placing.specs.Placing.{segment}
-use Rattle.placing.specs.Sizes.{places, mostSegments}
+use Rattle.placing.specs.Sizes.{places, mostSegments, mostHeld, greatestEnd, nameSymbols, recordLength}
 use Rattle.names.specs.laws.Small.{name-small}
 use Rattle.tables.specs.Layout.{recordBase, recordOf, recordAt, segmentsIn}
 use Rattle.tables.specs.Records.{usedb, recordb, recordsb}
@@ -31,7 +31,7 @@ use Rattle.image.specs.Image.{headWidths, recordWidths}
 
 -- 50 cells, each of its width
 abbrev pub Fits : List ℕ → Type 0
-Fits c = (k : ℕ) → k < 50 → getD c k 0 < 2 ^ getD recordWidths k 0
+Fits c = (k : ℕ) → k < recordLength → getD c k 0 < 2 ^ getD recordWidths k 0
 
 -- ---- the head
 
@@ -45,26 +45,26 @@ head-fits n h (suc (suc (suc i))) l = absurd (let z : ⊥ = omega arith in z)
 -- ---- above each number: used; symbols; owner, private, species, begin, end; segment numbers
 
 abbrev heads : List ℕ
-heads = 8 ∷ 2 ∷ 8 ∷ 16777216 ∷ 16777216 ∷ []
+heads = 8 ∷ 2 ∷ 8 ∷ (greatestEnd + 1) ∷ (greatestEnd + 1) ∷ []
 
 unfoldable limit : ℕ → ℕ
-limit k = cond (ltb k 1) 2 (cond (ltb k 13) 64 (cond (ltb k 18) (getD heads (k - 13) 0) 1024))
+limit k = cond (ltb k 1) 2 (cond (ltb k 13) 64 (cond (ltb k 18) (getD heads (k - 13) 0) mostSegments))
 
-limit-width : (k : ℕ) → k < 50 → limit k ≤ 2 ^ getD recordWidths k 0
+limit-width : (k : ℕ) → k < recordLength → limit k ≤ 2 ^ getD recordWidths k 0
 unfolding allBelow limit recordWidths
-limit-width k l = leb-true _ _ (all-at (λ k. leb (limit k) (2 ^ getD recordWidths k 0)) 50 refl k l)
+limit-width k l = leb-true _ _ (all-at (λ k. leb (limit k) (2 ^ getD recordWidths k 0)) recordLength refl k l)
 
 record Small (c : List ℕ) : Type 0 where
   used : getD c 0 0 < 2
-  name : (k : ℕ) → k < 12 → getD c (1 + k) 0 < 64
+  name : (k : ℕ) → k < nameSymbols → getD c (1 + k) 0 < 64
   middle : (j : ℕ) → j < 5 → getD c (13 + j) 0 < getD heads j 0
-  segments : (k : ℕ) → k < 32 → getD c (18 + k) 0 < 1024
+  segments : (k : ℕ) → k < mostHeld → getD c (18 + k) 0 < mostSegments
 
 small-fits : (c : List ℕ) → Small c → Fits c
 unfolding limit
 small-fits c s k l = lt-of-lt-of-le (go (ltb k 1) (ltb k 13) (ltb k 18) refl refl refl) (limit-width k l)
   where
-    go : (a b d : Bool) → ltb k 1 ≡ a → ltb k 13 ≡ b → ltb k 18 ≡ d → getD c k 0 < cond a 2 (cond b 64 (cond d (getD heads (k - 13) 0) 1024))
+    go : (a b d : Bool) → ltb k 1 ≡ a → ltb k 13 ≡ b → ltb k 18 ≡ d → getD c k 0 < cond a 2 (cond b 64 (cond d (getD heads (k - 13) 0) mostSegments))
     go true b d p q r =
         let e : 0 ≡ k = let h = ltb-true k 1 p in omega arith in
         subst (λ (i : ℕ). getD c i 0 < 2) e (s .used)
@@ -81,7 +81,7 @@ small-fits c s k l = lt-of-lt-of-le (go (ltb k 1) (ltb k 13) (ltb k 18) refl ref
     go false false false p q r =
         let h = ltb-false k 18 r in
         let e : 18 + (k - 18) ≡ k = omega arith in
-        subst (λ (i : ℕ). getD c i 0 < 1024) e (s .segments (k - 18) (omega arith))
+        subst (λ (i : ℕ). getD c i 0 < mostSegments) e (s .segments (k - 18) (omega arith))
 
 five : (P : ℕ → Type 0) → P 0 → P 1 → P 2 → P 3 → P 4 → (j : ℕ) → j < 5 → P j
 five P a b c d e zero l = a
@@ -98,7 +98,7 @@ default-le [] k = zero-le
 default-le (x ∷ l) zero = le-refl x
 default-le (x ∷ l) (suc k) = default-le l k
 
-list-small : (n held : ℕ) (l : List ℕ) → n ≤ mostSegments → SoundList n held (map segment l) → (k : ℕ) → k < 32 → getD l k 0 < 1024
+list-small : (n held : ℕ) (l : List ℕ) → n ≤ mostSegments → SoundList n held (map segment l) → (k : ℕ) → k < mostHeld → getD l k 0 < mostSegments
 list-small n held l m f k h =
     ⊎-elim (λ p. omega (arith, segment-number l k, f .unusedZero k p h)) (λ q. omega (arith, segment-number l k, f .inRange k q)) (le-or-lt held k)
 

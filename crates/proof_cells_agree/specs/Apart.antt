@@ -10,7 +10,7 @@ use mathlib.Core.List.{List, map}
 use lib.Dec.{T, eqb, eqb-refl, T-not}
 use lib.ListN.{getD}
 use Rattle.combine.specs.Lists.{isIn}
-use Rattle.placing.specs.Sizes.{places, userOf}
+use Rattle.placing.specs.Sizes.{places, userOf, entries, lists}
 use Rattle.rules.specs.Headings.{handleOf, passes}
 use Rattle.segments.specs.Free.{SegmentRecord, SegmentOpening, SegmentHouse, recordSegments}
 use Rattle.segments.specs.laws.Sound.{Tied, Placed, SoundOpen, SoundEntry, Alone}
@@ -27,13 +27,13 @@ use Rattle.proof_cells_agree.specs.Shown.{EachRecord, EachOpening, famil
 pub only-one : {A : Type 0} (l : List (Option A)) (i j : ℕ) (x y : A) → i ≡ j → getD l i none ≡ some x → getD l j none ≡ some y → x ≡ y
 only-one l i j x y e p q = let z : some x ≡ some y = sym p ∙ ap (λ (k : ℕ). getD l k none) e ∙ q in cc
 
-module _ (t : List ℕ) (distinct : Distinct t 96) (eachRecord : EachRecord (houseOf t)) where
+module _ (t : List ℕ) (distinct : Distinct t lists) (eachRecord : EachRecord (houseOf t)) where
   abbrev h : SegmentHouse
   h = houseOf t
 
   pub records-apart : RecordsApart h
   records-apart g p q j k r r′ er er′ lj lk =
-      let w = shown-apart t (record-shown t eachRecord p r er) (record-shown t eachRecord q r′ er′) 96 distinct
+      let w = shown-apart t (record-shown t eachRecord p r er) (record-shown t eachRecord q r′ er′) lists distinct
       (omega (arith, record-there t p r er .below)) (omega (arith, record-there t q r′ er′ .below)) g j k lj lk in
       (w .0, let e : r ≡ r′ = only-one (h .records) p q r r′ (w .0) er er′ in let s = rw e at (w .1) in omega arith)
 
@@ -41,7 +41,7 @@ module _ (t : List ℕ) (distinct : Distinct t 96) (eachRecord : EachRecord (hou
     pub mixed-apart : MixedApart h
     mixed-apart g p i j k r x er ex lj lk =
         let lp = record-there t p r er .below in
-        let w = shown-apart t (record-shown t eachRecord p r er) (opening-shown t eachOpening i x ex) 96 distinct
+        let w = shown-apart t (record-shown t eachRecord p r er) (opening-shown t eachOpening i x ex) lists distinct
         (omega arith) (omega (arith, opening-there t i x ex .below)) g j k lj lk in
         (go (x .handle .place) lp (w .0), sym (w .1))
       where
@@ -81,7 +81,7 @@ module _ (t : List ℕ) (distinct : Distinct t 96) (eachRecord : EachRecord (hou
       openings-apart g i l j k x y ex ey lj lk n = go (ℕ-discrete i l)
         where
           w : (familyFor i (x .handle .place) ≡ familyFor l (y .handle .place)) × (openingStretch x + j ≡ openingStretch y + k)
-          w = shown-apart t (opening-shown t eachOpening i x ex) (opening-shown t eachOpening l y ey) 96 distinct
+          w = shown-apart t (opening-shown t eachOpening i x ex) (opening-shown t eachOpening l y ey) lists distinct
               (omega (arith, opening-there t i x ex .below)) (omega (arith, opening-there t l y ey .below)) g j k lj lk
 
           go : Dec (i ≡ l) → (i ≡ l) × (j ≡ k)

@@ -12,7 +12,7 @@ use lib.ListN.{length, getD}
 use Rattle.combine.specs.laws.Numbers.{le-or-lt}
 use Rattle.combine.specs.laws.Below.{all-make, both, split-bool}
 use Rattle.combine.specs.Lists.{any, isIn}
-use Rattle.placing.specs.Sizes.{places, entries}
+use Rattle.placing.specs.Sizes.{places, entries, lists}
 use Rattle.segments.specs.Free.{SegmentRecord, SegmentOpening, SegmentHouse, recordSegments}
 use Rattle.segments.specs.laws.Sound.{SoundPlace, SoundHouse}
 use Rattle.tables.specs.Layout.{recordAt, openingAt, unusedRecord, closedOpening}
@@ -114,14 +114,14 @@ module _ (t : List ℕ) (canonical : Canonical t) (s : SoundHouse (houseOf t)) w
     shown = opening-shown t opening-held i x e;
   }
 
-  listing : (n : ℕ) → n < 96 → 0 < heldIn t n → Listing n
+  listing : (n : ℕ) → n < lists → 0 < heldIn t n → Listing n
   listing n l lj = ⊎-elim
       (λ (c : places ≤ n).
       let d : places + (n - places) ≡ n = omega arith in
       subst Listing d (opening-listing (n - places) (omega arith) (getD (houseOf t .openings) (n - places) none) refl (subst (λ (k : ℕ). 0 < heldIn t k) (sym d) lj)))
       (λ (c : n < places). record-listing n c (getD (houseOf t .records) n none) refl lj) (le-or-lt places n)
 
-  distinct : Distinct t 96
+  distinct : Distinct t lists
   distinct n j m k ln lj lm lk e =
       let a = listing n ln (omega arith) in
       let b = listing m lm (omega arith) in
@@ -130,11 +130,11 @@ module _ (t : List ℕ) (canonical : Canonical t) (s : SoundHouse (houseOf t)) w
       shown-agree t (a .shown) (b .shown) j k
       (owners-apart (houseOf t) (worded (houseOf t) s) (a .owner) (b .owner) (listed t m k) j k (ja, sym (a .shown .each j ja) ∙ e) (kb, sym (b .shown .each k kb)))
 
-  pub distinct-tests : distinctb t 96 ≡ true
+  pub distinct-tests : distinctb t lists ≡ true
   unfolding distinctb agree
-  distinct-tests = all-make _ 96 (λ n ln. all-make _ (heldIn t n) (λ j lj. all-make _ 96 (λ m lm. all-make _ (heldIn t m) (λ k lk. at-pair n j m k ln lj lm lk))))
+  distinct-tests = all-make _ lists (λ n ln. all-make _ (heldIn t n) (λ j lj. all-make _ lists (λ m lm. all-make _ (heldIn t m) (λ k lk. at-pair n j m k ln lj lm lk))))
     where
-      at-pair : (n j m k : ℕ) → n < 96 → j < heldIn t n → m < 96 → k < heldIn t m
+      at-pair : (n j m k : ℕ) → n < lists → j < heldIn t n → m < lists → k < heldIn t m
           → cond (eqb (listed t n j) (listed t m k)) (eqb (familyOf t n) (familyOf t m) && eqb (stretchIn t n j) (stretchIn t m k)) true ≡ true
       at-pair n j m k ln lj lm lk = ⊎-elim
           (λ e.

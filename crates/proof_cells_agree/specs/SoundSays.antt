@@ -10,7 +10,7 @@ use lib.ListN.{length, getD}
 use Rattle.combine.specs.laws.Below.{split-bool}
 use Rattle.combine.specs.laws.Rows.{each-of}
 use Rattle.combine.specs.laws.Lists.{length-tab}
-use Rattle.placing.specs.Sizes.{places, entries, userOf, mostSegments, tablesLength}
+use Rattle.placing.specs.Sizes.{places, entries, userOf, mostSegments, tablesLength, lists}
 use Rattle.rules.specs.Headings.{handleOf, holds}
 use Rattle.segments.specs.Free.{SegmentOpening}
 use Rattle.segments.specs.laws.Sound.{SoundPlace, SoundOpen, SoundEntry, Alone, SoundHouse}
@@ -35,9 +35,9 @@ module _ (cells : ℕ) (t : List ℕ) (ok : soundb cells t ≡ true) where
   long : length t ≡ tablesLength
   long = ranged-of cells t ok .0
 
-  distinct : Distinct t 96
+  distinct : Distinct t lists
   unfolding soundb
-  distinct = distinct-of t 96 (each-of _ ok .1 .1 .1 .0)
+  distinct = distinct-of t lists (each-of _ ok .1 .1 .1 .0)
 
   records-sound : (p : ℕ) → SoundPlace (segmentsIn t) (getD (houseOf t .records) p none)
   records-sound p = each-record t (SoundPlace (segmentsIn t)) p

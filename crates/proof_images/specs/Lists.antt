@@ -8,7 +8,7 @@ use lib.ListN.{length}
 use borrow.Author.Tests.{lt-ltb, le-ltb}
 use Rattle.combine.specs.laws.Numbers.{le-or-lt}
 use Rattle.placing.specs.Placing.{stretchOf}
-use Rattle.placing.specs.Sizes.{tablesLength}
+use Rattle.placing.specs.Sizes.{tablesLength, lists}
 use Rattle.tables.specs.declared.Record.{Record}
 use Rattle.tables.specs.Layout.{recordAt, closedOpening}
 use Rattle.tables.specs.Fields.{heldByRecord, heldByOpening, numberAt}
@@ -37,15 +37,15 @@ module _ (t : List ℕ) (long : length t ≡ tablesLength) where
     unfolding familyOf
     family-kept = rw (lt-ltb i 64 li) refl
 
-  none-held : (i : ℕ) → 64 ≤ i → i < 96 → heldIn (closed t) i ≡ 0
+  none-held : (i : ℕ) → 64 ≤ i → i < lists → heldIn (closed t) i ≡ 0
   unfolding heldIn heldByOpening closedOpening
   none-held i li l = rw (le-ltb i 64 li) (ap heldByOpening (opening-cleared t long (i - 64) (omega arith)))
 
   -- a list that holds a segment is a record's
-  of-record : (i k : ℕ) → i < 96 → k < heldIn (closed t) i → i < 64
+  of-record : (i k : ℕ) → i < lists → k < heldIn (closed t) i → i < 64
   of-record i k l h = ⊎-elim (λ p. absurd (let z : ⊥ = omega (arith, none-held i p l) in z)) (λ q. q) (le-or-lt 64 i)
 
-  pub closed-distinct : Distinct t 96 → Distinct (closed t) 96
+  pub closed-distinct : Distinct t lists → Distinct (closed t) lists
   closed-distinct d i k j l a b c e q =
       let x = of-record i k a b in
       let y = of-record j l c e in

@@ -11,7 +11,7 @@ use Rattle.combine.specs.Below.{allBelow}
 use Rattle.combine.specs.laws.Below.{all-make, all-cong}
 use Rattle.combine.specs.Rows.{allOf}
 use Rattle.combine.specs.laws.Rows.{each-of, all-good}
-use Rattle.placing.specs.Sizes.{places, entries, tablesLength}
+use Rattle.placing.specs.Sizes.{places, entries, tablesLength, lists}
 use Rattle.tables.specs.declared.Opening.{Opening}
 use Rattle.tables.specs.Layout.{segmentsIn, recordAt, closedOpening}
 use Rattle.tables.specs.Fields.{isUsed, valueOf}
@@ -57,7 +57,7 @@ closed-sound cells t ok =
         (
           nothing-open t long,
           (
-            distinct-by (closed t) 96 (closed-distinct t long (distinct-of t 96 (f .1 .1 .1 .0))),
+            distinct-by (closed t) lists (closed-distinct t long (distinct-of t lists (f .1 .1 .1 .0))),
             (ap (λ (k : ℕ). numberb k cells) n ∙ f .1 .1 .1 .1 .0, tt),
           ),
         ),

@@ -2,18 +2,9 @@
 mod input; // bytes gathered into lines
 mod output; // the answers
 
+use history_desk::sizes;
 use input::Filled;
 use libc::STDIN_FILENO;
-
-// "store (65,600 cells), tables (at least 64 cells longer than the tables' one length), image0 to image3 (1,024 cells each)", the images in one slice
-const STORE: usize = 65600;
-
-const TABLES: usize = 5057;
-
-const IMAGES: usize = 4096;
-
-// "At first 65,536 cells of the store, exactly the tables' length of the tables and exactly the image's length of each image buffer are lent"
-const LENT: [u32; 6] = [65536, 4993, 897, 897, 897, 897];
 
 enum Turn {
     More,
@@ -98,12 +89,12 @@ fn finish(
 }
 
 fn main() {
-    let mut store = [0u32; STORE];
-    let mut tables = [0u32; TABLES];
-    let mut images = [0u32; IMAGES];
+    let mut store = [0u32; sizes::STORE_BUFFER];
+    let mut tables = [0u32; sizes::TABLES_BUFFER];
+    let mut images = [0u32; sizes::IMAGES_BUFFER];
     let mut line = [0u8; input::LINE];
     let mut out = [0u8; input::OUT];
-    let lengths = LENT;
+    let lengths = sizes::LENT;
     let start = Filled {
         line: 0,
         out: 0,

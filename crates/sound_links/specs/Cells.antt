@@ -1,5 +1,5 @@
 -- Fields of an opening's row of 56 cells, and of a record's row of 50, by cells. Assumes nothing.
-use Prim.Native.Nat.{ℕ, _+_, _≤_, _<_}
+use Prim.Native.Nat.{ℕ, _+_, _-_, _≤_, _<_}
 use mathlib.Core.Path.{_≡_, sym, ap, _∙_}
 use mathlib.Core.Bool.{Bool}
 use mathlib.Core.List.{List, map}
@@ -11,7 +11,7 @@ use Rattle.combine.specs.laws.Below.{all-cong}
 use Rattle.combine.specs.Lists.{part, same}
 use Rattle.combine.specs.laws.Parts.{length-part, getD-part}
 use Rattle.combine.specs.laws.Same.{same-all}
-use Rattle.placing.specs.Sizes.{mostHeld, greatestEnd}
+use Rattle.placing.specs.Sizes.{mostHeld, greatestEnd, allPointers, openingLength}
 use Rattle.placing.specs.Placing.{segment}
 use Rattle.tables.specs.Layout.{openingOf}
 use Rattle.tables.specs.Fields.{valueOf, numberAt}
@@ -49,10 +49,10 @@ same-numbers c d a b hc hd =
     ∙ sym (all-cong (λ k. eqb (numberAt (map segment x) k) (numberAt (map segment y) k)) (λ k. eqb (getD x k 0) (getD y k 0)) mostHeld (λ k _ i. eqb (segment-number x k i) (segment-number y k i)))
 
 -- "the values of pointers 2 to 7 .. are 1 to the greatest end value"
-pub values-below : (c : List ℕ) → length c ≡ 56 → allCells (λ x. ltb x 16777216) (sliced c 6 12) ≡ allBelow 6 (λ k. leb (valueOf (openingOf c) (2 + k)) greatestEnd)
-values-below c l = all-slice (λ x. ltb x 16777216) (λ k. leb (valueOf (openingOf c) (2 + k)) greatestEnd) c 6 12 6 (omega arith) (omega arith) at
+pub values-below : (c : List ℕ) → length c ≡ openingLength → allCells (λ x. ltb x (greatestEnd + 1)) (sliced c 6 12) ≡ allBelow (allPointers - 2) (λ k. leb (valueOf (openingOf c) (2 + k)) greatestEnd)
+values-below c l = all-slice (λ x. ltb x (greatestEnd + 1)) (λ k. leb (valueOf (openingOf c) (2 + k)) greatestEnd) c 6 12 6 (omega arith) (omega arith) at
   where
-    at : (k : ℕ) → k < 6 → ltb (getD c (6 + k) 0) 16777216 ≡ leb (valueOf (openingOf c) (2 + k)) greatestEnd
+    at : (k : ℕ) → k < 6 → ltb (getD c (6 + k) 0) (greatestEnd + 1) ≡ leb (valueOf (openingOf c) (2 + k)) greatestEnd
     at k h =
         let e : 6 + k ≡ 4 + (2 + k) = omega arith in
         leb·suc-suc (getD c (6 + k) 0) greatestEnd

@@ -10,7 +10,7 @@ use native.Mathlib.Omega.{arith}
 use lib.ListN.{getD, replicate, length-replicate}
 use Rattle.combine.specs.Below.{allBelow}
 use Rattle.combine.specs.laws.Below.{not-both, left-of, right-of, split-bool}
-use Rattle.placing.specs.Sizes.{mostSegments}
+use Rattle.placing.specs.Sizes.{mostSegments, mostStretches, lists}
 use Rattle.placing.specs.Placing.{heldOf, stretchOf}
 use Rattle.tables.specs.Layout.{segmentsIn}
 use Rattle.tables.specs.Lists.{heldIn, listed, stretchIn, familyOf, distinctb}
@@ -97,7 +97,7 @@ module _ (t : List ℕ) where
       remembers-as (λ s v p. seen-next i s v (subst (λ (x : ℕ). Seen t i x s v) e p)) (λ s v p. subst (λ (x : ℕ). Seen t i x s v) (sym e) (seen-back i s v p)) h
 
   -- ---- equal marks: one family, one stretch
-  same-mark : (i k j l : ℕ) → stretchIn t i k < 262144 → stretchIn t j l < 262144 → markOf t i k ≡ markOf t j l → (familyOf t i ≡ familyOf t j) × (stretchIn t i k ≡ stretchIn t j l)
+  same-mark : (i k j l : ℕ) → stretchIn t i k < mostStretches → stretchIn t j l < mostStretches → markOf t i k ≡ markOf t j l → (familyOf t i ≡ familyOf t j) × (stretchIn t i k ≡ stretchIn t j l)
   unfolding markOf
   same-mark i k j l a b e = omega arith
 
@@ -181,20 +181,20 @@ module _ (t : List ℕ) where
       zeros (suc n) (suc s) = zeros n s
 
   -- list i by its cells
-  module _ (ok : Ranged t) (i : ℕ) (li : i < 96) (m : List ℕ) (h : Remembers (Seen t i 0) m) where
+  module _ (ok : Ranged t) (i : ℕ) (li : i < lists) (m : List ℕ) (h : Remembers (Seen t i 0) m) where
     pub file-told : (numbers family s b e : ℕ) → FileOf t i numbers family s b e → (after : List ℕ) (r : Bool)
-        → Marked m (cellsFrom t numbers) (1 + family * 262144 + stretchOf s b) (heldOf s b e) after r → Told t i after r
+        → Marked m (cellsFrom t numbers) (1 + family * mostStretches + stretchOf s b) (heldOf s b e) after r → Told t i after r
     unfolding markOf
     file-told numbers family s b e f =
-        list-told i m (cellsFrom t numbers) (1 + family * 262144 + stretchOf s b) (heldOf s b e) (list-facts t ok i li) (ok .3) (sym (f .held))
+        list-told i m (cellsFrom t numbers) (1 + family * mostStretches + stretchOf s b) (heldOf s b e) (list-facts t ok i li) (ok .3) (sym (f .held))
         (λ k l. sym (f .number k (omega (arith, f .extent .held)))) (λ k. omega (arith, f .whose, f .stretch k)) h
 
   -- ---- the whole pass
-  pub pass-ends : Ranged t → (i : ℕ) (m : List ℕ) → i ≤ 96 → 96 ≤ i → Remembers (Seen t i 0) m → true ≡ distinctb t 96
+  pub pass-ends : Ranged t → (i : ℕ) (m : List ℕ) → i ≤ lists → lists ≤ i → Remembers (Seen t i 0) m → true ≡ distinctb t lists
   pass-ends ok i m l l′ h =
-      let e : i ≡ 96 = omega arith in
-      sym (distinct-by t 96 (all-distinct 96 m (list-facts t ok) (subst (λ (x : ℕ). Remembers (Seen t x 0) m) e h)))
+      let e : i ≡ lists = omega arith in
+      sym (distinct-by t lists (all-distinct lists m (list-facts t ok) (subst (λ (x : ℕ). Remembers (Seen t x 0) m) e h)))
 
-  pub pass-stops : (i : ℕ) (m : List ℕ) (r : Bool) → i < 96 → Told t i m r → r ≡ false → false ≡ distinctb t 96
+  pub pass-stops : (i : ℕ) (m : List ℕ) (r : Bool) → i < lists → Told t i m r → r ≡ false → false ≡ distinctb t lists
   pass-stops i m r l w e =
-      sym (⊎-elim (λ ok. absurd (w .bad e 96 l (distinct-of t 96 ok))) (λ no. no) (split-bool (distinctb t 96)))
+      sym (⊎-elim (λ ok. absurd (w .bad e lists l (distinct-of t lists ok))) (λ no. no) (split-bool (distinctb t lists)))

@@ -9,7 +9,7 @@ use native.Mathlib.Omega.{arith}
 use lib.Dec.{eqb}
 use lib.ListN.{length, getD}
 use Rattle.placing.specs.declared.Position.{Position}
-use Rattle.placing.specs.Sizes.{tablesLength, mostHeld, mostSegments, places, entries}
+use Rattle.placing.specs.Sizes.{tablesLength, mostHeld, mostSegments, places, entries, lists}
 use Rattle.placing.specs.Placing.{position, heldOf, stretchOf}
 use Rattle.tables.specs.Layout.{recordBase, openingBase}
 use Rattle.tables.specs.Lists.{heldIn, listed, stretchIn, familyOf}
@@ -35,10 +35,10 @@ pub record FileCells (t : List ℕ) (numbers family s b e : ℕ) : Type 0 where
   pub inside : numbers + mostHeld ≤ tablesLength
   pub extent : SoundExtent s b e
   pub inRange : (k : ℕ) → k < heldOf s b e → cellsFrom t numbers k < mostSegments
-  pub whose : family < 96
+  pub whose : family < lists
 
 module _ (t : List ℕ) (ok : Ranged t) where
-  pub file-cells : (i numbers family s b e : ℕ) → i < 96 → FileOf t i numbers family s b e → FileCells t numbers family s b e
+  pub file-cells : (i numbers family s b e : ℕ) → i < lists → FileOf t i numbers family s b e → FileCells t numbers family s b e
   file-cells i numbers family s b e li f =
       let g = list-facts t ok i li in
       let h = f .extent .held in

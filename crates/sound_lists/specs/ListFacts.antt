@@ -6,7 +6,7 @@ use mathlib.Core.List.{List}
 use native.Mathlib.Omega.{arith}
 use lib.ListN.{getD}
 use Rattle.combine.specs.laws.Numbers.{le-or-lt, eq-or-ne}
-use Rattle.placing.specs.Sizes.{places, entries, mostHeld}
+use Rattle.placing.specs.Sizes.{places, entries, mostHeld, mostStretches, lists}
 use Rattle.tables.specs.Layout.{recordBase, openingBase, segmentsIn, recordAt, openingAt}
 use Rattle.tables.specs.Lists.{heldIn, listed, stretchIn, familyOf}
 use Rattle.tables.specs.laws.Sound.{Ranged}
@@ -21,12 +21,12 @@ pub record ListFacts (t : List ℕ) (i : ℕ) : Type 0 where
   pub held : heldIn t i ≤ mostHeld
   -- "all places and segment numbers are in range"
   pub number : (k : ℕ) → k < heldIn t i → listed t i k < segmentsIn t
-  pub family : familyOf t i < 96
+  pub family : familyOf t i < lists
   -- a stretch is below 2 ^ 18
-  pub stretch : (k : ℕ) → k < heldIn t i → stretchIn t i k < 262144
+  pub stretch : (k : ℕ) → k < heldIn t i → stretchIn t i k < mostStretches
 
 -- a list that holds nothing
-none-held : (t : List ℕ) (i : ℕ) → heldIn t i ≡ 0 → familyOf t i < 96 → ListFacts t i
+none-held : (t : List ℕ) (i : ℕ) → heldIn t i ≡ 0 → familyOf t i < lists → ListFacts t i
 none-held t i z f =
     record { held = omega arith; number = λ k l. absurd (let y : ⊥ = omega arith in y); family = f; stretch = λ k l. absurd (let y : ⊥ = omega arith in y) }
 
@@ -72,7 +72,7 @@ module _ (t : List ℕ) (ok : Ranged t) where
       closed z =
           none-held t (64 + j) (list.opening-held-closed t j z) (omega (arith, list.opening-family-none t j (closed-place t (ok .2) j lj (opened-cell t j ∙ z))))
 
-  pub list-facts : (i : ℕ) → i < 96 → ListFacts t i
+  pub list-facts : (i : ℕ) → i < lists → ListFacts t i
   list-facts i li =
       ⊎-elim
       (λ h. let e : 64 + (i - 64) ≡ i = omega arith in subst (λ (x : ℕ). ListFacts t x) e (opening-facts-at (i - 64) (omega arith)))

@@ -4,13 +4,14 @@ use mathlib.Core.Path.{_≡_}
 use mathlib.Core.Logic.{_⊎_}
 use mathlib.Core.Bool.{Bool, true, false}
 use mathlib.Core.List.{List}
+use Rattle.placing.specs.Sizes.{mostStretches}
 use Rattle.tables.specs.Lists.{heldIn, listed, stretchIn, familyOf}
 use Rattle.tables.specs.laws.Lists.{Distinct}
 use Rattle.sound_lists.specs.Marks.{Remembers}
 
 -- the mark of a number in list i: whose file it is in and at which stretch, and never 0
 unfoldable pub markOf : List ℕ → ℕ → ℕ → ℕ
-markOf t i k = 1 + familyOf t i * 262144 + stretchIn t i k
+markOf t i k = 1 + familyOf t i * mostStretches + stretchIn t i k
 
 -- segment s was listed with the mark v
 pub record Seen (t : List ℕ) (i k s v : ℕ) : Type 0 where

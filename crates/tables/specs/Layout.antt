@@ -1,5 +1,5 @@
--- Where records and openings lie in the cells t of the tables: cell 0 is the number of segments, record p starts at 1 + 50 p,
--- opening i at 3201 + 56 i. Assumes nothing.
+-- Where records and openings lie in the cells t of the tables: cell 0 is the number of segments, then come the records by place, then the
+-- openings by entry. Assumes nothing.
 use Prim.Native.Nat.{ℕ, _+_, _-_, _*_}
 use mathlib.Core.List.{[], _∷_, _++_, map}
 use lib.ListN.{getD, replicate}

@@ -8,6 +8,7 @@ use borrow.Author.Needs.{needs}
 use lib.ListN.{length, getD}
 use lib.Dec.{eqb}
 use Rattle.combine.specs.Lists.{isIn}
+use Rattle.placing.specs.Sizes.{lists}
 use Rattle.free_count.specs.Lists.{free-rows}
 use Rattle.free_count.proofs.Cells.{lent-row, lent-fits}
 use Rattle.free_count.proofs.Marks.{Unmarked, marks-start, marks-turn, marks-done, notIn, lent-low}
@@ -15,10 +16,10 @@ use Rattle.free_count.proofs.mark_lists.Statement.{statement}
 use Rattle.free_count.proofs.mark_lists.Tie as tie
 
 abbrev Inv-loop : tie.InvT-loop
-Inv-loop tables marks₀ list₀ marks list = (list ≤ 96) × (length marks ≡ 1024) × Unmarked (notIn tables) marks₀ list marks
+Inv-loop tables marks₀ list₀ marks list = (list ≤ lists) × (length marks ≡ 1024) × Unmarked (notIn tables) marks₀ list marks
 
 abbrev μ-loop : tie.MeasureT-loop
-μ-loop tables marks₀ list₀ marks list = 96 - list
+μ-loop tables marks₀ list₀ marks list = lists - list
 
 loop-holds : tie.Need-loop-holds Inv-loop μ-loop
 loop-holds c = (omega arith, c .before .pre .1, marks-start (notIn (now (c .before .args .tables))) (now (c .before .args .marks)))
@@ -77,7 +78,7 @@ returns : tie.Need-returns Inv-loop μ-loop
 returns c =
     let s = c .before .before .before in
     let l = c .before .loop in
-    marks-done (notIn (now (s .args .tables))) (now (s .args .marks)) (l .list) 96 (l .marks) _ (omega arith) (free-rows (now (s .args .tables)) (s .pre .0)) (l .inv .2)
+    marks-done (notIn (now (s .args .tables))) (now (s .args .marks)) (l .list) lists (l .marks) _ (omega arith) (free-rows (now (s .args .tables)) (s .pre .0)) (l .inv .2)
 
 pub mark-lists-spec : {M : Type 1} → statement M
 mark-lists-spec =

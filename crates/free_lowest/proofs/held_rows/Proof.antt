@@ -6,16 +6,17 @@ use denote.Ref.{now}
 use lib.Dec.{ltb}
 use lib.ListN.{length, length-set}
 use Rattle.combine.specs.laws.Any.{byte-few}
+use Rattle.placing.specs.Sizes.{lists}
 use Rattle.free_lowest.specs.Held.{HeldRows}
 use Rattle.free_lowest.proofs.Search.{rows-start, rows-turn}
 use Rattle.free_lowest.proofs.held_rows.Statement.{statement}
 use Rattle.free_lowest.proofs.held_rows.Tie as tie
 
 abbrev Inv-loop : tie.InvT-loop
-Inv-loop tables starts₀ counts₀ number₀ i₀ starts counts number i = (i ≤ 96) × (length starts ≡ 96) × (length counts ≡ 96) × HeldRows tables i number starts counts
+Inv-loop tables starts₀ counts₀ number₀ i₀ starts counts number i = (i ≤ lists) × (length starts ≡ lists) × (length counts ≡ lists) × HeldRows tables i number starts counts
 
 abbrev μ-loop : tie.MeasureT-loop
-μ-loop tables starts₀ counts₀ number₀ i₀ starts counts number i = 96 - i
+μ-loop tables starts₀ counts₀ number₀ i₀ starts counts number i = lists - i
 
 loop-holds : tie.Need-loop-holds Inv-loop μ-loop
 loop-holds c = (omega arith, refl, refl, rows-start _ _ _)
@@ -58,7 +59,7 @@ loop-again c =
 returns : tie.Need-returns Inv-loop μ-loop
 returns c =
     let l = c .before .loop in
-    let e : l .i ≡ 96 = omega arith in
+    let e : l .i ≡ lists = omega arith in
     subst (λ (i : ℕ). HeldRows (now (c .before .before .before .args .tables)) i (l .number) (l .starts) (l .counts)) e (l .inv .3)
 
 pub held-rows-spec : {M : Type 1} → statement M

@@ -2,6 +2,7 @@
 use Prim.Native.Nat.{_≤_, _-_}
 use native.Mathlib.Omega.{arith}
 use borrow.Author.Tests.{not-true, not-false}
+use Rattle.placing.specs.Sizes.{lists}
 use Rattle.sound_lists.specs.Marks.{Remembers}
 use Rattle.sound_lists.specs.Seen.{Seen}
 use Rattle.sound_lists.proofs.Passing.{nothing-seen, pass-ends, pass-stops}
@@ -9,10 +10,10 @@ use Rattle.sound_lists.proofs.distinct.Statement.{statement}
 use Rattle.sound_lists.proofs.distinct.Tie as tie
 
 abbrev Inv-loop : tie.InvT-loop
-Inv-loop tables marks₀ i₀ marks i = (i ≤ 96) × Remembers (Seen tables i 0) marks
+Inv-loop tables marks₀ i₀ marks i = (i ≤ lists) × Remembers (Seen tables i 0) marks
 
 abbrev μ-loop : tie.MeasureT-loop
-μ-loop tables marks₀ i₀ marks i = 96 - i
+μ-loop tables marks₀ i₀ marks i = lists - i
 
 loop-holds : tie.Need-loop-holds Inv-loop μ-loop
 loop-holds c = (omega arith, nothing-seen _)

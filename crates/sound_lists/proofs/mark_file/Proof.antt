@@ -1,6 +1,7 @@
 -- `distinct::mark_file` meets its contract. Assumes nothing.
 use Prim.Native.Nat.{_+_, _*_, _<_}
 use native.Mathlib.Omega.{arith}
+use Rattle.placing.specs.Sizes.{mostStretches}
 use Rattle.tables.specs.laws.ExtentFacts.{stretch-below}
 use Rattle.sound_lists.proofs.Marking.{marked-as}
 use borrow.Author.Needs.{needs}
@@ -26,7 +27,7 @@ add-first-2 : tie.Need-add-first-2
 add-first-2 c =
     let a = c .before .before .before .args in
     let p = c .before .before .before .pre in
-    let m : 1 + a .family * 262144 + c .stretch .result < 4294967296 = omega (arith, p .whose, c .stretch .ensures, stretch-below (a .species) (a .begin .0) (p .extent .species) (omega (arith, p .extent))) in
+    let m : 1 + a .family * mostStretches + c .stretch .result < 4294967296 = omega (arith, p .whose, c .stretch .ensures, stretch-below (a .species) (a .begin .0) (p .extent .species) (omega (arith, p .extent))) in
     record { fits = m }
 
 mark-numbers-requires : tie.Need-mark-numbers-requires
