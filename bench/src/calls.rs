@@ -1,4 +1,4 @@
-//! The calls of document 01 as data, so that one list of them is made of the proved code and of the twin alike.
+//! The calls that are measured and those that lead up to them, as data, so that one list of them is made of every build and of the twin alike.
 
 /// What is lent to a call: store, tables and one image buffer.
 #[derive(Clone, PartialEq)]
@@ -13,7 +13,6 @@ pub type At = (u32, u32);
 
 #[derive(Clone, Debug)]
 pub enum Call {
-    Fresh,
     Save,
     Load,
     Free(u32),
@@ -24,20 +23,24 @@ pub enum Call {
     Close(At),
     Public(At),
     Abandon(At),
-    Reset(At),
     Pointer(At, u32),
-    Delete(At, u32),
     Write(At, u32, u32),
     Next(At, u32),
     Prev(At, u32),
-    Species(At),
-    Claim(At),
-    Permit(At),
-    Begin(At),
-    End(At),
-    Symbol(At, u32),
     Value(At, u32),
 }
 
-/// Makes a call: done n is n, refused n is 2^32 + n.
+/// Makes a call. Done with n is n.
 pub type Performer = fn(&Call, &mut Lent) -> u64;
+
+/// The answer refused with n.
+pub const fn refused(number: u32) -> u64 {
+    (1 << 32) + number as u64
+}
+
+pub fn is_done(answer: u64) -> bool {
+    answer >> 32 == 0
+}
+
+/// No answer: whoever was asked does not have the call.
+pub const ABSENT: u64 = u64::MAX;

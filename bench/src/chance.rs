@@ -15,7 +15,7 @@ pub struct Chance {
 
 impl Chance {
     pub fn new(seed: u64) -> Chance {
-        Chance { random: Random(seed), last: Call::Fresh, again: 0 }
+        Chance { random: Random(seed), last: Call::Save, again: 0 }
     }
 
     /// A call. An access is now and then made many times over, and a pointer asked for several times.
@@ -28,7 +28,7 @@ impl Chance {
             0..=1 => self.operators(),
             2..=24 => self.openings(tables),
             25..=34 => self.endings(tables),
-            35..=79 => self.accesses(tables),
+            35..=84 => self.accesses(tables),
             _ => self.others(tables),
         };
         self.again = match call {
@@ -86,11 +86,10 @@ impl Chance {
     }
 
     fn operators(&mut self) -> Call {
-        match self.random.below(40) {
-            0 => Call::Fresh,
-            1..=4 => Call::Load,
-            _ => Call::Save,
+        if self.random.one_in(10) {
+            return Call::Load;
         }
+        Call::Save
     }
 
     fn openings(&mut self, tables: &[u32]) -> Call {
@@ -134,18 +133,10 @@ impl Chance {
 
     fn others(&mut self, tables: &[u32]) -> Call {
         let at = self.open(tables);
-        match self.random.below(40) {
-            0..=7 => Call::Rename(at, self.name()),
-            8..=11 => Call::Reset(at),
-            12..=18 => Call::Pointer(at, self.pointer()),
-            19..=20 => Call::Delete(at, self.random.mostly_below(8)),
-            21..=23 => Call::Species(at),
-            24..=26 => Call::Claim(at),
-            27..=28 => Call::Permit(at),
-            29..=30 => Call::Begin(at),
-            31..=32 => Call::End(at),
-            33..=34 => Call::Symbol(at, self.random.mostly_below(13)),
-            35..=37 => Call::Value(at, self.random.mostly_below(8)),
+        match self.random.below(10) {
+            0..=3 => Call::Rename(at, self.name()),
+            4..=6 => Call::Pointer(at, self.pointer()),
+            7..=8 => Call::Value(at, self.random.mostly_below(8)),
             _ => Call::Free(at.0),
         }
     }

@@ -1,50 +1,77 @@
 //! What every call pays for, and what a call pays that takes a segment: soundness, the free count, the lowest free segment.
 use crate::book::Book;
-use crate::measure::{least, opaque};
-use crate::tables::{for_decisions, CELLS};
-use crate::{proved, twin};
+use crate::measure::{least, opaque, Turns};
+use crate::proved::{lengths_before, Build, BEFORE, NOW};
+use crate::tables::{compact, scattered, CELLS};
+use crate::twin;
 
-/// The exports decide soundness first, so the twin does too.
-fn if_sound<R: Default>(tables: &[u32], decide: impl FnOnce(&[u32]) -> R) -> R {
-    if twin::sound(tables, CELLS) {
-        decide(tables)
-    } else {
-        R::default()
-    }
+/// What a build, or the twin, says of the tables.
+type Decision = fn(&Build, &[u32], usize) -> u32;
+type Twins = fn(&[u32]) -> u32;
+
+fn sound(tables: &[u32]) -> u32 {
+    u32::from(twin::sound(tables, CELLS))
 }
 
-fn row<P, T>(book: &mut Book, what: &str, tables: &[u32], proved: impl Fn(&[u32]) -> P, twin: impl Fn(&[u32]) -> T) {
-    let times = least(
-        |turns| {
-            for _ in 0..turns {
-                opaque(proved(opaque(tables)));
-            }
-        },
-        |turns| {
-            for _ in 0..turns {
-                opaque(twin(opaque(tables)));
-            }
-        },
-    );
-    let columns = book.best(times).columns();
-    book.line(&format!("| {what} | {columns} |"));
+/// The exports decide soundness first, so the twin does too.
+fn free_count(tables: &[u32]) -> u32 {
+    if twin::sound(tables, CELLS) {
+        return twin::free_count(tables);
+    }
+    0
+}
+
+/// The number of segments where none is free, as the exports say it.
+fn lowest_free(tables: &[u32]) -> u32 {
+    if twin::sound(tables, CELLS) {
+        return twin::lowest_free(tables).unwrap_or(tables[0]);
+    }
+    0
+}
+
+fn lowest_free_by_search(tables: &[u32]) -> u32 {
+    if twin::sound(tables, CELLS) {
+        return twin::lowest_free_by_search(tables).unwrap_or(tables[0]);
+    }
+    0
+}
+
+fn again<'a>(tables: &'a [u32], decide: impl Fn(&[u32]) -> u32 + 'a) -> Turns<'a> {
+    Box::new(move |turns| {
+        for _ in 0..turns {
+            opaque(decide(opaque(tables)));
+        }
+    })
+}
+
+/// The earlier build is left out where it says something else.
+fn row(book: &mut Book, what: &str, tables: &[u32], decision: Decision, twins: Twins) {
+    let answer = decision(&NOW, tables, CELLS);
+    assert_eq!(answer, twins(tables), "proved code and twin say different things: {what}");
+    let earlier = lengths_before().map(|(length, _)| &tables[..length.min(tables.len())]);
+    let earlier = earlier.filter(|tables| decision(&BEFORE, tables, CELLS) == answer);
+    let times = least([
+        Some(again(tables, move |tables| decision(&NOW, tables, CELLS))),
+        earlier.map(|tables| again(tables, move |tables| decision(&BEFORE, tables, CELLS))),
+        Some(again(tables, twins)),
+    ]);
+    book.row(what, times);
 }
 
 pub fn write(book: &mut Book) {
-    book.heading("decision | proved ns | twin ns | ratio");
-    let lowest = |tables: &[u32]| proved::lowest_free(tables, CELLS);
-    for (what, tables) in for_decisions() {
-        row(book, &format!("sound: {what}"), &tables, |t| proved::sound(t, CELLS), |t| twin::sound(t, CELLS));
+    book.heading("decision");
+    let all: Vec<_> = compact().into_iter().chain(scattered()).collect();
+    for (what, tables) in &all {
+        row(book, &format!("sound: {what}"), tables, Build::sound, sound);
     }
-    for (what, tables) in for_decisions() {
-        let counted = |t: &[u32]| proved::free_count(t, CELLS);
-        row(book, &format!("sound, free count: {what}"), &tables, counted, |t| if_sound(t, twin::free_count));
+    for (what, tables) in &all {
+        row(book, &format!("sound, free count: {what}"), tables, Build::free_count, free_count);
     }
-    for (what, tables) in for_decisions() {
-        row(book, &format!("sound, lowest free: {what}"), &tables, lowest, |t| if_sound(t, twin::lowest_free));
+    for (what, tables) in &all {
+        row(book, &format!("sound, lowest free: {what}"), tables, Build::lowest_free, lowest_free);
     }
-    for (what, tables) in for_decisions() {
+    for (what, tables) in &scattered() {
         let what = format!("the same, the twin in the same form: {what}");
-        row(book, &what, &tables, lowest, |t| if_sound(t, twin::lowest_free_by_search));
+        row(book, &what, tables, Build::lowest_free, lowest_free_by_search);
     }
 }

@@ -4,23 +4,20 @@ use crate::calls::Call::{self, Next, Write};
 use crate::measure;
 use crate::scenes::{open_file, HERE};
 
-/// Elements of species 0, which has the most of them in a segment.
-const LENGTHS: [u32; 3] = [1, 1_000, 60_000];
-
-fn table(book: &mut Book, what: &str, call: Call) {
-    book.heading(&format!("{what}: records | openings | 1 element | 1,000 elements | 60,000 elements"));
+fn rows(book: &mut Book, what: &str, call: Call) {
     for records in [0, 20, 64] {
-        for openings in [1, 8, 32] {
-            let columns = LENGTHS.map(|elements| {
+        for openings in [1, 32] {
+            // of species 0, which has the most elements in a segment
+            for elements in [1, 60_000] {
                 let times = measure::call(&open_file(records, 0, elements, openings - 1), &call, None);
-                book.best(times).column()
-            });
-            book.line(&format!("| {records} | {openings} | {} |", columns.join(" | ")));
+                book.row(&format!("{what} | {records} | {openings} | {elements}"), times);
+            }
         }
     }
 }
 
 pub fn write(book: &mut Book) {
-    table(book, "append", Write(HERE, 1, 1));
-    table(book, "next", Next(HERE, 2));
+    book.heading("one call | records | openings | elements");
+    rows(book, "append", Write(HERE, 1, 1));
+    rows(book, "next", Next(HERE, 2));
 }

@@ -1,9 +1,8 @@
-//! How long the proved calls take beside the unproved twin: best of many rounds, as ratios in one run.
+//! How long the proved calls take, beside an earlier build's and an unproved twin's: best of many rounds, all in one run.
 mod agree;
 mod book;
 mod calls;
 mod chance;
-mod cycles;
 mod damage;
 mod decisions;
 mod growth;
@@ -18,23 +17,22 @@ mod twin;
 const PASSES: usize = 8;
 
 fn main() {
+    assert_eq!(proved::NOW.lengths(), (twin::TABLES, twin::IMAGE), "the twin's tables or image are not this build's");
     let answers = agree::histories();
     println!(
         "{} random calls: proved code and twin answer alike and leave the same cells.",
         answers.iter().sum::<u32>()
     );
     println!("done and refused 1 to 22, how often: {answers:?}");
-    tables::for_decisions().iter().for_each(|(_, tables)| agree::decisions(tables));
-    println!("Every decision measured, and soundness with each one cell changed: alike.");
+    tables::compact().iter().chain(&tables::scattered()).for_each(|(_, tables)| agree::soundness(tables));
+    println!("Soundness of the tables measured, with each one cell changed: alike.");
 
     let mut book = book::Book::default();
-    for _ in 0..PASSES {
+    for _ in 0..measure::asked("PASSES", PASSES) {
         book.begin();
         decisions::write(&mut book);
-        kinds::write_single(&mut book);
         kinds::write(&mut book);
-        cycles::write(&mut book);
         growth::write(&mut book);
     }
-    print!("{}", book.text);
+    book.print(proved::lengths_before().is_some());
 }

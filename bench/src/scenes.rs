@@ -1,40 +1,72 @@
 //! What the measured calls find: so many records, an open file, other openings.
-use crate::calls::{At, Call, Lent};
+use crate::calls::{is_done, At, Call, Lent, Performer};
 use crate::tables::{filled, open_new, short, Content, CELLS};
-use crate::twin;
+use crate::{proved, twin};
 
 /// The user and entry of the measured calls.
 pub const HERE: At = (0, 0);
-/// The name of the record at place 0, user 0's.
-pub const OWN: &[u8] = b"00";
 /// Of each record, but on the full store.
 const HELD: u32 = 15;
 
+/// The name of the record at place 0, user 0's.
+pub fn own() -> Vec<u8> {
+    b"00".to_vec()
+}
+
+/// Cells, and the calls that are made over them first, by each build over its own.
+pub struct Scene {
+    lent: Lent,
+    first: Vec<Call>,
+}
+
+impl Scene {
+    fn of(tables: Vec<u32>) -> Scene {
+        Scene { lent: Lent { store: vec![0; CELLS], tables, image: vec![0; twin::IMAGE] }, first: vec![] }
+    }
+
+    /// The same after these calls.
+    pub fn after(mut self, calls: &[Call]) -> Scene {
+        self.first.extend_from_slice(calls);
+        self
+    }
+
+    /// After the first calls, if all are done.
+    fn led(&self, perform: Performer, mut lent: Lent) -> Option<Lent> {
+        self.first.iter().all(|call| is_done(perform(call, &mut lent))).then_some(lent)
+    }
+
+    /// What this build and the twin find.
+    pub fn now(&self) -> Lent {
+        self.led(proved::now, self.lent.clone()).expect("refused before measuring")
+    }
+
+    /// What the earlier build finds. Its tables may have lacked cells that stand at their end now, and its image may have another form.
+    pub fn before(&self) -> Option<Lent> {
+        let (tables, image) = proved::lengths_before()?;
+        let mut lent = self.lent.clone();
+        lent.tables.truncate(tables);
+        lent.image.resize(image, 0);
+        self.led(proved::before, lent)
+    }
+}
+
 /// So many records of 15 segments each.
-pub fn records(number: usize) -> Lent {
-    Lent { store: vec![0; CELLS], tables: filled(number, short, HELD), image: vec![0; twin::IMAGE] }
+pub fn records(number: usize) -> Scene {
+    Scene::of(filled(number, short, HELD))
 }
 
 /// 64 records of 16 segments each, so that no segment is free.
-pub fn full() -> Lent {
-    Lent { store: vec![0; CELLS], tables: filled(64, short, 16), image: vec![0; twin::IMAGE] }
+pub fn full() -> Scene {
+    Scene::of(filled(64, short, 16))
 }
 
 /// Beside the records a new file of so many elements of a species, and so many other openings, new files of one element each.
-pub fn open_file(number: usize, species: u32, elements: u32, others: usize) -> Lent {
-    let mut lent = records(number);
+pub fn open_file(number: usize, species: u32, elements: u32, others: usize) -> Scene {
+    let mut tables = filled(number, short, HELD);
     let free = HELD * number as u32;
-    open_new(&mut lent.tables, 0, Content { species, begin: 1, end: 1 + elements, first: free + 31 });
+    open_new(&mut tables, 0, Content { species, begin: 1, end: 1 + elements, first: free + 31 });
     for entry in 1..1 + others {
-        open_new(&mut lent.tables, entry, Content { species, begin: 1, end: 2, first: free + entry as u32 - 1 });
+        open_new(&mut tables, entry, Content { species, begin: 1, end: 2, first: free + entry as u32 - 1 });
     }
-    lent
-}
-
-/// The same after calls that are all done.
-pub fn after(mut lent: Lent, calls: &[Call]) -> Lent {
-    for call in calls {
-        assert_eq!(twin::perform(call, &mut lent) >> 32, 0, "refused before measuring: {call:?}");
-    }
-    lent
+    Scene::of(tables)
 }

@@ -3,7 +3,7 @@ use crate::random::Random;
 use crate::twin::TABLES;
 
 pub const CELLS: usize = 65_536;
-const SEGMENTS: u32 = 1024;
+pub const SEGMENTS: u32 = 1024;
 /// E of species 0 to 5.
 const ELEMENTS: [u32; 6] = [2048, 1024, 512, 256, 128, 64];
 
@@ -49,9 +49,10 @@ fn shared(place: usize) -> Name {
     short(place / 8)
 }
 
-pub fn empty() -> Vec<u32> {
+/// No records and no openings.
+pub fn empty(segments: u32) -> Vec<u32> {
     let mut tables = vec![0; TABLES];
-    tables[0] = SEGMENTS;
+    tables[0] = segments;
     tables
 }
 
@@ -89,7 +90,7 @@ fn reading(tables: &mut [u32], entry: usize, place: usize) {
 
 /// So many records of species 5 that hold so many segments each, the one at place p of user p mod 8, from the first segment on.
 pub fn filled(records: usize, name: fn(usize) -> Name, held: u32) -> Vec<u32> {
-    let mut tables = empty();
+    let mut tables = empty(SEGMENTS);
     for place in 0..records {
         let content = Content { species: 5, begin: 1, end: 1 + 64 * held, first: held * place as u32 };
         file(&mut tables, place, name(place), (place % 8) as u32, content);
@@ -126,10 +127,10 @@ fn all_reading(mut tables: Vec<u32>) -> Vec<u32> {
     tables
 }
 
-/// The tables that the decisions are measured on.
-pub fn for_decisions() -> Vec<(&'static str, Vec<u32>)> {
+/// Tables that the decisions are measured on, each file's segments together.
+pub fn compact() -> Vec<(&'static str, Vec<u32>)> {
     vec![
-        ("empty tables", empty()),
+        ("empty tables", empty(SEGMENTS)),
         ("20 records, 320 segments listed", filled(20, short, 16)),
         ("64 records, 1,024 segments listed, 32 openings", all_reading(filled(64, short, 16))),
         ("64 records, 1,008 segments listed, no opening", {
@@ -138,14 +139,19 @@ pub fn for_decisions() -> Vec<(&'static str, Vec<u32>)> {
             tables
         }),
         ("64 records, 960 segments listed, no opening", filled(64, short, 15)),
-        ("64 records, 960 segments listed, at random", {
-            let numbers = shuffled();
-            dealt(|place, stretch| numbers[15 * place + stretch])
-        }),
-        ("64 records, 960 segments listed, each in the record before the last one's", {
-            dealt(|place, stretch| (64 * stretch + 63 - place) as u32)
-        }),
         ("64 records, 960 segments listed, 8 names with 8 owners each", filled(64, shared, 15)),
         ("64 names alike in ten symbols", all_reading(filled(64, alike, 16))),
+    ]
+}
+
+/// The same, and each file's segments lie apart.
+pub fn scattered() -> Vec<(&'static str, Vec<u32>)> {
+    let numbers = shuffled();
+    vec![
+        ("64 records, 960 segments listed, at random", dealt(|place, stretch| numbers[15 * place + stretch])),
+        (
+            "64 records, 960 segments listed, each in the record before the last one's",
+            dealt(|place, stretch| (64 * stretch + 63 - place) as u32),
+        ),
     ]
 }

@@ -1,6 +1,6 @@
-//! Next and prev.
+//! Next, prev, and the value of a pointer.
 use super::layout::{self, opening, Opening};
-use super::openings::{drop_first, drop_last, value};
+use super::openings::{self, drop_first, drop_last};
 use super::placing::{element, stretch};
 use super::{gate, Answer, Refusal};
 
@@ -11,11 +11,17 @@ fn delivered(store: &[u32], cells: &Opening, position: u32) -> u32 {
     element(store, species, cells[opening::SEGMENTS][place as usize], position)
 }
 
+/// The one inquiry here: each is the gate and a look.
+pub fn value(store: &[u32], tables: &[u32], user: u32, entry: u32, pointer: u32) -> Answer {
+    let at = gate::open_entry(store, tables, user, entry)?;
+    openings::value(layout::opening(tables, at), pointer)
+}
+
 /// "Next: v < b is 6, v >= e is 7. Delivers position v, v grows. Through 0 the element leaves the file."
 pub fn next(store: &[u32], tables: &mut [u32], user: u32, entry: u32, pointer: u32) -> Answer {
     let at = gate::open_entry(store, tables, user, entry)?;
     let cells = layout::opening_mut(tables, at);
-    let value = value(cells, pointer)?;
+    let value = openings::value(cells, pointer)?;
     if pointer == 0 && cells[opening::PERMIT] == 0 {
         return Err(Refusal::Permit);
     }
@@ -38,7 +44,7 @@ pub fn next(store: &[u32], tables: &mut [u32], user: u32, entry: u32, pointer: u
 pub fn prev(store: &[u32], tables: &mut [u32], user: u32, entry: u32, pointer: u32) -> Answer {
     let at = gate::open_entry(store, tables, user, entry)?;
     let cells = layout::opening_mut(tables, at);
-    let value = value(cells, pointer)?;
+    let value = openings::value(cells, pointer)?;
     if pointer == 1 && cells[opening::PERMIT] == 0 {
         return Err(Refusal::Permit);
     }

@@ -1,7 +1,7 @@
-//! Fresh start, save and load: "897 cells, bit-packed, most significant first".
+//! Save and load: "897 cells, bit-packed, most significant first".
 use super::layout::{self, record, Record, TABLES};
 use super::placing::SEGMENT_CELLS;
-use super::soundness::{sound, MOST_SEGMENTS};
+use super::soundness::sound;
 use super::{Answer, Refusal};
 
 pub const IMAGE: usize = 897;
@@ -24,22 +24,6 @@ const WIDTHS: [u32; record::CELLS] = {
     widths[record::END] = 24;
     widths
 };
-
-/// "A fresh start gives it floor(length / 64) segments, at most 1,024"
-pub fn fresh(store: &[u32], tables: &mut [u32]) -> Answer {
-    fits(store, tables)?;
-    tables.fill(0);
-    tables[0] = (store.len() / SEGMENT_CELLS).min(MOST_SEGMENTS as usize) as u32;
-    Ok(0)
-}
-
-/// "A fresh start and a load don't look at what the tables held, only at their length and the store's."
-fn fits(store: &[u32], tables: &[u32]) -> Result<(), Refusal> {
-    if tables.len() != TABLES || store.len() < SEGMENT_CELLS {
-        return Err(Refusal::Tables);
-    }
-    Ok(())
-}
 
 pub fn save(store: &[u32], tables: &[u32], image: &mut [u32]) -> Answer {
     if !sound(tables, store.len()) {
@@ -73,8 +57,11 @@ fn pack(filed: &Record, packed: &mut [u32]) {
     }
 }
 
+/// "A fresh start and a load don't look at what the tables held, only at their length and the store's."
 pub fn load(store: &[u32], tables: &mut [u32], image: &[u32]) -> Answer {
-    fits(store, tables)?;
+    if tables.len() != TABLES || store.len() < SEGMENT_CELLS {
+        return Err(Refusal::Tables);
+    }
     if image.len() != IMAGE || image[0] >> 24 != FORM || image[0] & 0x1FFF != 0 {
         return Err(Refusal::Image);
     }

@@ -31,7 +31,6 @@ pub mod opening {
     pub const END: usize = 5;
     pub const WORK: usize = 6;
     pub const WORK_AND_OWN: Range<usize> = 6..12;
-    pub const OWN: Range<usize> = 7..12;
     pub const NAME: Range<usize> = 12..24;
     pub const SEGMENTS: Range<usize> = 24..56;
     pub const CELLS: usize = 56;
@@ -55,11 +54,6 @@ pub fn records_mut(tables: &mut [u32]) -> impl Iterator<Item = &mut Record> {
 pub fn record(tables: &[u32], place: usize) -> &Record {
     let from = RECORDS + record::CELLS * place;
     tables[from..from + record::CELLS].try_into().unwrap()
-}
-
-pub fn record_mut(tables: &mut [u32], place: usize) -> &mut Record {
-    let from = RECORDS + record::CELLS * place;
-    (&mut tables[from..from + record::CELLS]).try_into().unwrap()
 }
 
 pub fn opening(tables: &[u32], entry: usize) -> &Opening {

@@ -28,14 +28,6 @@ pub fn held(species: u32, begin: u32, end: u32) -> u32 {
     stretch(species, end - 1) - stretch(species, begin) + 1
 }
 
-/// "The claim is the number of positions from b to the end of the last held stretch, 0 for an empty file."
-pub fn claim(species: u32, begin: u32, end: u32) -> u32 {
-    if begin == end {
-        return 0;
-    }
-    ((stretch(species, end - 1) + 1) << elements_log(species)) + 1 - begin
-}
-
 /// An element in the store: the cell, how far the element stands above the cell's lowest bit, and the bits of its width.
 struct Seat {
     cell: usize,

@@ -1,7 +1,6 @@
 //! "Sound tables": document 01's sentence, test by test.
 use super::layout::{self, opening, record, Opening, Record, PLACES, TABLES};
 use super::placing::{held, stretch, GREATEST_END, GREATEST_SPECIES, MOST_HELD, SEGMENT_CELLS};
-use super::records::key;
 
 pub const MOST_SEGMENTS: u32 = 1024;
 
@@ -54,6 +53,12 @@ fn record_sound(cells: &Record, segments: u32) -> bool {
         && cells[record::PRIVATE] <= 1
         && extent_sound(species, begin, end)
         && list_sound(&cells[record::SEGMENTS], held(species, begin, end), segments)
+}
+
+/// Twelve symbols of six bits as one number.
+fn key(name: &[u32]) -> u128 {
+    let half = |symbols: &[u32]| symbols.iter().fold(0, |key: u64, &symbol| key << 6 | u64::from(symbol));
+    u128::from(half(&name[..6])) << 64 | u128::from(half(&name[6..]))
 }
 
 /// "No two records of one owner have one name; no two public records have one name."
