@@ -1,3 +1,2 @@
 -- What the code of `sound_links` is. Assumes nothing.
-pub mod Choices
 pub mod Links

@@ -19,7 +19,7 @@ use Rattle.tables.specs.Fields.{recordFor}
 use Rattle.tables.specs.Openings.{linkb, readb, workb, besideRecordb}
 use Rattle.sound_extents.specs.Slices.{sliced, sliced-part}
 use Rattle.sound_links.specs.Linked.{elsewhereb, linkedb}
-use Rattle.sound_links.proofs.Choices.{or-first, or-second}
+use Rattle.sound_reading.proofs.Choices.{or-first, or-second}
 
 -- ---- the entries beside an opening's own
 

@@ -1,5 +1,4 @@
 -- Laws that the proofs share. Assumes nothing.
-pub mod Names
 pub mod Rows
 pub mod Places
 pub mod Stored

@@ -11,7 +11,7 @@ use Rattle.combine.specs.laws.Parts.{getD-part}
 use Rattle.tables.specs.Layout.{recordOf, recordAt}
 use Rattle.tables.specs.Fields.{isUsed}
 use Rattle.tables.specs.Records.{clash, noClashb}
-use Rattle.sound_names.specs.Keys.{Spelled}
+use Rattle.sound_clashes.specs.Halves.{Spelled}
 
 module _ (t : List ℕ) (p : ℕ) where
   pub used-cell : recordAt t p .used ≡ getD t (1 + 50 * p) 0

@@ -18,7 +18,7 @@ use Rattle.tables.specs.Fields.{isUsed}
 use Rattle.tables.specs.Records.{clash}
 use Rattle.sound_keys.specs.Keys.{keyOf, shortOf, publicOf, newb, apartb}
 use Rattle.sound_names.specs.Keys.{Keyed}
-use Rattle.sound_names.proofs.Names.{keys-differ}
+use Rattle.sound_clashes.proofs.Names.{keys-differ}
 
 abbrev ownedKey : Record → ℕ
 ownedKey r = shortOf (keyOf r 0) (keyOf r 6) (r .owner)

@@ -12,8 +12,9 @@ use Rattle.placing.specs.Sizes.{places, tablesLength}
 use Rattle.tables.specs.Layout.{recordAt}
 use Rattle.tables.specs.Fields.{isUsed}
 use Rattle.sound_keys.specs.Keys.{keyOf, shortOf, publicOf}
-use Rattle.sound_names.specs.Keys.{Spelled, Halved, Keyed}
-use Rattle.sound_names.proofs.Names.{key-unused}
+use Rattle.sound_clashes.specs.Halves.{Spelled, Halved}
+use Rattle.sound_clashes.proofs.Names.{key-unused}
+use Rattle.sound_names.specs.Keys.{Keyed}
 
 -- from place n on no key is stored
 pub record Rest (high low : List ℕ) (n : ℕ) : Type 0 where

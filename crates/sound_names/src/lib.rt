@@ -8,50 +8,18 @@ ghost use mathlib.Core.Bool.{true};
 ghost use Prim.Native.Nat.{ℕ, _+_, _<_};
 ghost use lib.ListN.{length};
 ghost use Rattle.combine.specs.Below.{allBelow};
-ghost use Rattle.placing.specs.Sizes.{places, tablesLength, recordLength, lists};
-ghost use Rattle.tables.specs.Layout.{recordOf, recordAt};
+ghost use Rattle.placing.specs.Sizes.{places, tablesLength};
+ghost use Rattle.tables.specs.Layout.{recordAt};
 ghost use Rattle.tables.specs.Fields.{isUsed};
-ghost use Rattle.tables.specs.Records.{clash, noClashb};
-ghost use Rattle.sound_names.specs.Keys.{kinb, Spelled, Halved, Keyed};
+ghost use Rattle.tables.specs.Records.{noClashb};
+ghost use Rattle.sound_clashes.specs.Halves.{Spelled};
+ghost use Rattle.sound_names.specs.Keys.{Keyed};
 
 // The second six symbols of a name, in a record's row.
 const SECOND_HALF: usize = layout::RECORD_NAME + 6;
 
 // The cell of the first record's private flag.
 const FIRST_PRIVATE: usize = RECORDS_START + layout::RECORD_PRIVATE;
-
-// Of one owner, or both public.
-fn kin(left: &[u32], right: &[u32]) -> bool
-    requires { ⌜ (length (now left) ≡ recordLength) × (length (now right) ≡ recordLength) ⌝ }
-    ensures { λ r. ⌜ r ≡ kinb (recordOf (now (left .entry))) (recordOf (now (right .entry))) ⌝ }
-{
-    if left[layout::RECORD_OWNER] == right[layout::RECORD_OWNER] {
-        return true;
-    }
-    if left[layout::RECORD_PRIVATE] != 0 {
-        return false;
-    }
-    right[layout::RECORD_PRIVATE] == 0
-}
-
-// Whether the used record at place p clashes with the one at place q before it. Names that agree at all mostly agree at
-// their beginning, so that the later half is compared first.
-fn clashes(tables: &[u32], high: &[u64; PLACES], low: &[u64; PLACES], p: usize, q: usize) -> bool
-    requires { ⌜ Halved (now tables) (now high) (now low) (p + 1) × (q < p) × (isUsed (recordAt (now tables) p) ≡ true) ⌝ }
-    ensures { λ r. ⌜ r ≡ clash (recordAt (now (tables .entry)) p) (recordAt (now (tables .entry)) q) ⌝ }
-{
-    if low[p] != low[q] {
-        return false;
-    }
-    if high[p] != high[q] {
-        return false;
-    }
-    let here = RECORDS_START + RECORD_LENGTH * p;
-    let beyond = here + RECORD_LENGTH;
-    let there = RECORDS_START + RECORD_LENGTH * q;
-    let after = there + RECORD_LENGTH;
-    kin(&tables[here..beyond], &tables[there..after])
-}
 
 fn alone(
     tables: &[u32],
@@ -70,7 +38,7 @@ fn alone(
     }
     let mut q = 0;
     while q < p {
-        if clashes(tables, high, low, p, q) {
+        if sound_clashes::clashes(tables, high, low, p, q) {
             return false;
         }
         q += 1;

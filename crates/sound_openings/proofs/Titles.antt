@@ -8,7 +8,7 @@ use lib.ListN.{length, getD}
 use Rattle.combine.specs.Below.{allBelow}
 use Rattle.names.specs.Names.{nameb, openingNameb}
 use Rattle.sound_extents.specs.Slices.{allCells}
-use Rattle.sound_links.proofs.Choices.{or-first, or-second}
+use Rattle.sound_reading.proofs.Choices.{or-first, or-second}
 
 pub title-name : (name : List ℕ) → nameb name ≡ true → true ≡ openingNameb name
 unfolding openingNameb

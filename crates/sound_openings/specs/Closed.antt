@@ -17,7 +17,7 @@ use Rattle.placing.specs.Sizes.{mostHeld}
 use Rattle.tables.specs.Layout.{openingOf}
 use Rattle.tables.specs.Openings.{closedb}
 use Rattle.sound_extents.specs.Slices.{allCells}
-use Rattle.sound_links.specs.Cells.{value-cell, number-cell}
+use Rattle.sound_reading.specs.Cells.{value-cell, number-cell}
 
 -- every cell of a closed row is in one of its fields
 module _ (c : List ℕ) (first : getD c 0 0 ≡ 0) where

@@ -13,7 +13,7 @@ use Rattle.names.specs.laws.Small.{name-small}
 use Rattle.names.proofs.Within.{within}
 use Rattle.tables.specs.declared.Record.{Record}
 use Rattle.tables.specs.Records.{usedb, unusedb, recordb}
-use Rattle.sound_names.specs.Keys.{Spelled}
+use Rattle.sound_clashes.specs.Halves.{Spelled}
 
 module _ (r : Record) (long : length (r .name) ≡ 12) where
   used-spelled : (n : ℕ) → usedb n r ≡ true → Spelled r

@@ -11,7 +11,8 @@ use Rattle.tables.specs.declared.Record.{Record}
 use Rattle.tables.specs.Records.{noClashb}
 use Rattle.sound_keys.specs.Keys.{keyOf}
 use Rattle.sound_names.specs.Keys.{Keyed}
-use Rattle.sound_names.proofs.Rows.{row-at, owner-cell, private-flag}
+use Rattle.sound_clashes.proofs.Rows.{row-at}
+use Rattle.sound_names.proofs.Rows.{owner-cell, private-flag}
 use Rattle.sound_names.proofs.Places.{used-cell, is-used, alone-unused}
 use Rattle.sound_names.proofs.Stored.{Rest, keys-none, rest-all, rest-skip, rest-put, keys-put, keys-skip}
 use Rattle.sound_names.proofs.names_sound.Statement.{statement}

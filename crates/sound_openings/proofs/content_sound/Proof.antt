@@ -16,7 +16,7 @@ use Rattle.tables.specs.Layout.{openingOf}
 use Rattle.tables.specs.Records.{extentb, listb}
 use Rattle.sound_extents.specs.Extent.{held-at}
 use Rattle.tables.specs.laws.ExtentFacts.{extentb-facts}
-use Rattle.sound_links.specs.Cells.{extent-cells}
+use Rattle.sound_reading.specs.Cells.{extent-cells}
 use Rattle.sound_openings.specs.Opened.{contentb}
 use Rattle.sound_openings.proofs.content_sound.Statement.{statement}
 use Rattle.sound_openings.proofs.content_sound.Tie as tie

@@ -7,7 +7,7 @@ use borrow.Author.Tests.{le-leb, lt-leb}
 use lib.Dec.{leb}
 use Rattle.combine.specs.laws.Rows.{one-bad, all-last}
 use Rattle.tables.specs.Openings.{pointersb}
-use Rattle.sound_links.specs.Cells.{value-cell, values-below}
+use Rattle.sound_reading.specs.Cells.{value-cell, values-below}
 use Rattle.sound_openings.proofs.pointers_sound.Statement.{statement}
 use Rattle.sound_openings.proofs.pointers_sound.Tie as tie
 

@@ -9,7 +9,7 @@ use Rattle.combine.specs.Below.{allBelow}
 use Rattle.combine.specs.laws.Below.{all-zero, all-more, loop-true, loop-false, was-true, was-false}
 use Rattle.tables.specs.Layout.{recordAt}
 use Rattle.tables.specs.Records.{recordb}
-use Rattle.sound_names.proofs.Rows.{row-at}
+use Rattle.sound_clashes.proofs.Rows.{row-at}
 use Rattle.sound_records.proofs.each_sound.Statement.{statement}
 use Rattle.sound_records.proofs.each_sound.Tie as tie
 

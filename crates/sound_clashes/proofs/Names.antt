@@ -18,7 +18,7 @@ use Rattle.tables.specs.Fields.{isUsed}
 use Rattle.tables.specs.Records.{clash}
 use Rattle.sound_keys.specs.Keys.{digits, keyOf}
 use Rattle.sound_keys.proofs.Digits.{digits-positive, digits-same}
-use Rattle.sound_names.specs.Keys.{kinb, Spelled}
+use Rattle.sound_clashes.specs.Halves.{kinb, Spelled}
 
 key-used : (r : Record) (at : ℕ) → r .used ≡ 1 → keyOf r at ≡ digits (r .name) at 6
 unfolding keyOf

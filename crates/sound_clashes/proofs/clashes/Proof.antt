@@ -1,14 +1,14 @@
--- `sound_names::clashes` meets its contract. Assumes nothing.
+-- `sound_clashes::clashes` meets its contract. Assumes nothing.
 use mathlib.Core.Path.{sym, _∙_}
 use native.Mathlib.Omega.{arith}
 use denote.Ref.{now}
 use borrow.Author.Needs.{needs}
 use Rattle.tables.specs.laws.Put.{record-shaped-at}
-use Rattle.sound_names.specs.Keys.{kinb}
-use Rattle.sound_names.proofs.Names.{keys-differ, keys-same}
-use Rattle.sound_names.proofs.Rows.{row-at}
-use Rattle.sound_names.proofs.clashes.Statement.{statement}
-use Rattle.sound_names.proofs.clashes.Tie as tie
+use Rattle.sound_clashes.specs.Halves.{kinb}
+use Rattle.sound_clashes.proofs.Names.{keys-differ, keys-same}
+use Rattle.sound_clashes.proofs.Rows.{row-at}
+use Rattle.sound_clashes.proofs.clashes.Statement.{statement}
+use Rattle.sound_clashes.proofs.clashes.Tie as tie
 
 mul-if1 : tie.Need-mul-if1
 mul-if1 c = search needs

@@ -1,11 +1,11 @@
--- `sound_links::may_read` meets its contract. Assumes nothing.
+-- `sound_reading::may_read` meets its contract. Assumes nothing.
 use native.Mathlib.Omega.{arith}
 use borrow.Author.Needs.{needs}
 use borrow.Author.Tests.{eq-eqb, ne-eqb}
 use Rattle.tables.specs.Layout.{recordOf}
-use Rattle.sound_links.proofs.Choices.{or-first, or-second}
-use Rattle.sound_links.proofs.may_read.Statement.{statement}
-use Rattle.sound_links.proofs.may_read.Tie as tie
+use Rattle.sound_reading.proofs.Choices.{or-first, or-second}
+use Rattle.sound_reading.proofs.may_read.Statement.{statement}
+use Rattle.sound_reading.proofs.may_read.Tie as tie
 
 shared-slice-read-if1 : tie.Need-shared-slice-read-if1
 shared-slice-read-if1 c = search needs

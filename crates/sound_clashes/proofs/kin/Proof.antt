@@ -1,12 +1,12 @@
--- `sound_names::kin` meets its contract. Assumes nothing.
+-- `sound_clashes::kin` meets its contract. Assumes nothing.
 use mathlib.Core.Path.{sym}
 use borrow.Author.Tests.{eq-eqb, ne-eqb}
 use borrow.Author.Needs.{needs}
 use Rattle.combine.specs.laws.Below.{or-left}
 use Rattle.tables.specs.Layout.{recordOf}
-use Rattle.sound_names.specs.Keys.{kinb}
-use Rattle.sound_names.proofs.kin.Statement.{statement}
-use Rattle.sound_names.proofs.kin.Tie as tie
+use Rattle.sound_clashes.specs.Halves.{kinb}
+use Rattle.sound_clashes.proofs.kin.Statement.{statement}
+use Rattle.sound_clashes.proofs.kin.Tie as tie
 
 shared-slice-read-if1 : tie.Need-shared-slice-read-if1
 shared-slice-read-if1 c = search needs

@@ -1,4 +1,4 @@
--- `sound_links::read_sound` meets its contract. Assumes nothing.
+-- `sound_reading::read_sound` meets its contract. Assumes nothing.
 use mathlib.Core.Path.{_∙_}
 use native.Mathlib.Omega.{arith}
 use denote.Ref.{now}
@@ -9,9 +9,9 @@ use Rattle.combine.specs.Lists.{part}
 use Rattle.combine.specs.laws.Rows.{one-bad, all-last}
 use Rattle.tables.specs.Layout.{recordOf, openingOf}
 use Rattle.tables.specs.Openings.{readb}
-use Rattle.sound_links.specs.Cells.{value-test, same-numbers}
-use Rattle.sound_links.proofs.read_sound.Statement.{statement}
-use Rattle.sound_links.proofs.read_sound.Tie as tie
+use Rattle.sound_reading.specs.Cells.{value-test, same-numbers}
+use Rattle.sound_reading.proofs.read_sound.Statement.{statement}
+use Rattle.sound_reading.proofs.read_sound.Tie as tie
 
 shared-slice-read-if1 : tie.Need-shared-slice-read-if1
 shared-slice-read-if1 c = search needs

@@ -1,0 +1,2 @@
+-- The cells of an opening and of its record as their fields. Assumes nothing.
+pub mod Cells
