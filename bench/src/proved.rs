@@ -2,7 +2,8 @@
 //! exports names that begin with `before_`, and those that it lacks, or all where there is none, are `bench_absent`.
 use crate::calls::{Call, Lent, ABSENT};
 
-/// Takes the place of an export that the earlier build lacks: whatever it is asked, it has no answer.
+/// Takes the place of an export that the earlier build lacks: whatever it is asked, it has no answer. By the C convention a function may be handed arguments
+/// that it does not look at.
 #[no_mangle]
 pub extern "C" fn bench_absent() -> u64 {
     ABSENT
