@@ -1,17 +1,20 @@
 -- An inquiry is refused at the gate, or answered: as the code's steps give the premises. Assumes nothing.
 use Prim.Native.Nat.{ℕ, _+_, _≤_, _<_}
 use mathlib.Core.Path.{_≡_, refl, sym, ap, subst₃, _∙_}
-use mathlib.Core.Bool.{true}
+use mathlib.Core.Bool.{Bool, true, false}
 use mathlib.Core.List.{List}
 use native.Mathlib.Omega.{arith}
+use lib.Dec.{eqb}
 use lib.ListN.{length}
 use borrow.Author.Needs.{needs}
 use Rattle.answers.specs.declared.Refusal.{Refusal}
 use Rattle.answers.specs.declared.Refusal.the-variants.{Pointer}
 use Rattle.answers.specs.declared.Answer.{Answer}
 use Rattle.answers.specs.declared.Answer.the-variants.{Done, Refused}
-use Rattle.placing.specs.Sizes.{entries, tablesLength}
+use Rattle.placing.specs.declared.Position.{Position}
+use Rattle.placing.specs.Sizes.{entries, tablesLength, greatestSpecies, greatestEnd}
 use Rattle.placing.specs.Placing.{claimOf}
+use Rattle.placing.specs.laws.Tests.{none-so, none-not}
 use Rattle.rules.specs.Calls.{Act, uses, askSpecies, askClaim, askPermit, askSymbol, askBegin, askEnd, askValue}
 use Rattle.tables.specs.Layout.{openingAt}
 use Rattle.tables.specs.laws.Pointers.{value-in}
@@ -81,14 +84,26 @@ module _ (s t : List ℕ) (u e : ℕ) (g : Gate) (eg : g ≡ reachOf (length s) 
       claim-answered n en =
           answered s t u e i here-at askClaim n refl (asks-claim s t u e i here-at ∙ asks-number s t u e i here-at (sym (en ∙ (λ j. claimOf (ea j) (eb j) (ec j)))))
 
-      pub claim-sound : SoundExtent a b c
-      claim-sound =
+      sound : SoundExtent a b c
+      sound =
           let o = openingAt t i in
           subst₃ SoundExtent
           (species-cell t i ∙ sym ea)
           (sym (value-in o 0) ∙ value-cell t i 0 (omega arith) ∙ sym eb)
           (sym (value-in o 1) ∙ value-cell t i 1 (omega arith) ∙ sym ec)
           (facts (length s) t u e i here-at .extent)
+
+      pub claim-species : a ≤ greatestSpecies
+      claim-species = sound .species
+
+      pub claim-first : 1 ≤ b
+      claim-first = sound .begin
+
+      pub claim-order : b ≤ c
+      claim-order = sound .end
+
+      pub claim-last : c ≤ greatestEnd
+      claim-last = sound .greatest
 
     pub no-symbol-answered : (k : ℕ) → 11 < k → outcome (Done 63) s t ≡ requestOut (uses (askSymbol k)) s t u e
     no-symbol-answered k h = answered s t u e i here-at (askSymbol k) 63 refl (asks-no-symbol s t u e i here-at k h)
@@ -102,14 +117,18 @@ module _ (s t : List ℕ) (u e : ℕ) (g : Gate) (eg : g ≡ reachOf (length s) 
         answered-not s t u e i here-at (askValue p) Pointer refl
         (asks-no-value s t u e i here-at p (value-beyond t i (long (length s) t u e i here-at) (in-range (length s) t u e i here-at) p h))
 
-    module _ (p n : ℕ) (lp : p ≤ 7) (q : n ≡ fieldAt t i (4 + p)) where
-      pub no-value-answered : n ≡ 0 → outcome (Refused Pointer) s t ≡ requestOut (uses (askValue p)) s t u e
-      no-value-answered z = answered-not s t u e i here-at (askValue p) Pointer refl (asks-no-value s t u e i here-at p (value-cell t i p (omega arith) ∙ sym q ∙ z))
+    -- v is the value of pointer p, b the test whether there is none
+    module _ (p : ℕ) (v : Position) (lp : p ≤ 7) (q : v .0 ≡ fieldAt t i (4 + p)) (b : Bool) (eb : b ≡ eqb (v .0) 0) where
+      pub no-value-answered : b ≡ true → outcome (Refused Pointer) s t ≡ requestOut (uses (askValue p)) s t u e
+      no-value-answered z =
+          answered-not s t u e i here-at (askValue p) Pointer refl (asks-no-value s t u e i here-at p (value-cell t i p (omega arith) ∙ sym q ∙ none-so b (v .0) eb z))
 
-      pub value-answered : (n ≡ 0 → ⊥) → outcome (Done n) s t ≡ requestOut (uses (askValue p)) s t u e
-      value-answered d = answered s t u e i here-at (askValue p) n refl (asks-value s t u e i here-at p n (value-cell t i p (omega arith) ∙ sym q) d)
+      pub value-answered : b ≡ false → (n : ℕ) → n ≡ v .0 → outcome (Done n) s t ≡ requestOut (uses (askValue p)) s t u e
+      value-answered d n en =
+          answered s t u e i here-at (askValue p) n refl
+          (asks-value s t u e i here-at p n (value-cell t i p (omega arith) ∙ sym (en ∙ q)) (λ z. none-not b (v .0) eb d (sym en ∙ z)))
 
 -- what `field` asks
 pub ruleset within = (long-behind, entry-behind, needs)
 
-pub ruleset inquiring = (tell-no, tell-at, species-told, permit-told, begin-told, end-told, refused-at-gate, claim-answered, claim-sound, no-symbol-answered, symbol-answered, no-pointer-answered, no-value-answered, value-answered)
+pub ruleset inquiring = (tell-no, tell-at, species-told, permit-told, begin-told, end-told, refused-at-gate, claim-answered, claim-species, claim-first, claim-order, claim-last, no-symbol-answered, symbol-answered, no-pointer-answered, no-value-answered, value-answered)

@@ -4,13 +4,11 @@ use answers::Refusal;
 use gate::Gate;
 use placing::Position;
 ghost use mathlib.Core.Path.{_≡_};
-ghost use Prim.Native.Nat.{_<_};
+ghost use Prim.Native.Nat.{_+_, _<_};
 ghost use lib.ListN.{length};
 ghost use Rattle.placing.specs.Sizes.{entries, tablesLength};
-ghost use Rattle.placing.specs.Placing.{claimOf};
 ghost use Rattle.rules.specs.Calls.{uses};
 ghost use Rattle.rules.specs.Calls as call;
-ghost use Rattle.tables.specs.laws.ExtentFacts.{SoundExtent};
 ghost use Rattle.cells.specs.Outcomes.{outcome, requestOut};
 ghost use Rattle.gate.specs.Gates.{reachOf};
 ghost use Rattle.call_ask.specs.Told.{fieldAt, told};
@@ -35,12 +33,13 @@ fn tell(cells: usize, tables: &[u32], user: u32, entry: u32, number: usize) -> A
     }
 }
 
-// The claim, of a sound species, begin and end as the cells have them.
-fn claimed(species: u32, begin: u32, end: u32) -> u32
-    requires { ⌜ SoundExtent species begin end ⌝ }
-    ensures { λ r. ⌜ r ≡ claimOf species begin end ⌝ }
+// The value of a pointer, as its cell has it.
+fn value_at(tables: &[u32], at: usize, pointer: u32) -> Position
+    requires { ⌜ (length (now tables) ≡ tablesLength) × (at < entries) × (pointer < 8) ⌝ }
+    ensures { λ r. ⌜ r .0 ≡ fieldAt (now (tables .entry)) at (4 + pointer) ⌝ }
 {
-    placing::claim(species, Position::of(begin), Position::of(end))
+    let number = 4 + pointer as usize;
+    Position::of(field(tables, at, number))
 }
 
 // "Inquiries: species, claim, work permit (1 or 0), symbol k of the name (k from 0; 63 for k of 12 or more), begin, end, value
@@ -61,9 +60,9 @@ pub fn claim(store: &[u32], tables: &[u32], user: u32, entry: u32) -> Answer
         Gate::No(why) => Answer::Refused(why),
         Gate::At(at) => {
             let species = field(tables, at, 3);
-            let begin = field(tables, at, 4);
-            let end = field(tables, at, 5);
-            Answer::Done(claimed(species, begin, end))
+            let begin = value_at(tables, at, 0);
+            let end = value_at(tables, at, 1);
+            Answer::Done(placing::claim(species, begin, end))
         }
     }
 }
@@ -115,12 +114,11 @@ pub fn value(store: &[u32], tables: &[u32], user: u32, entry: u32, pointer: u32)
             if 7 < pointer {
                 return Answer::Refused(Refusal::Pointer);
             }
-            let number = 4 + pointer as usize;
-            let found = field(tables, at, number);
-            if found == 0 {
+            let found = value_at(tables, at, pointer);
+            if found.is_none() {
                 return Answer::Refused(Refusal::Pointer);
             }
-            Answer::Done(found)
+            Answer::Done(found.number())
         }
     }
 }

@@ -4,13 +4,13 @@ use mathlib.Core.Path.{_≡_, refl, sym, ap, _∙_}
 use mathlib.Core.Bool.{Bool, true, false, cond}
 use native.Mathlib.Omega.{arith}
 use lib.Dec.{leb, ltb, eqb}
-use borrow.Author.Tests.{eq-eqb, ne-eqb, le-leb, lt-leb, lt-ltb, le-ltb}
+use borrow.Author.Tests.{lt-leb, le-ltb}
 use Rattle.combine.specs.Verdict.{Verdict, refused, done, refuse_when_else_}
 use Rattle.combine.specs.laws.Verdict.{refused-here, went-on}
 use Rattle.answers.specs.declared.Refusal.the-variants.{Pointer, Permit, Below, Beyond}
 use Rattle.placing.specs.declared.Segment.{Segment}
 use Rattle.placing.specs.declared.Position.{Position}
-use Rattle.placing.specs.Placing.{position}
+use Rattle.placing.specs.laws.Tests.{none-not}
 use Rattle.rules.specs.Headings.{moved}
 use Rattle.rules.specs.Effects.{stays, firstLeaves, lastLeaves, element, Use, does}
 use Rattle.rules.specs.Access.{nextRule, prevRule}
@@ -61,37 +61,36 @@ module _ (o : Opening) (p : ℕ) where
       λ i. let v′ = (value-in o p ∙ sym ev) i in
       fourTests (eqb v′ 0) (lacksPermit p 0 (o .permit)) (ltb v′ ((value-in o 0 ∙ sym eb) i)) (leb ((value-in o 1 ∙ sym ee) i) v′) (nextUse v′)
 
-  module _ (v : ℕ) (ev : v ≡ valueOf o p) where
-    pub next-none : v ≡ 0 → NextPlan o p (No Pointer)
-    next-none z = record { plan = next-is v _ _ ev refl refl ∙ stop-4 _ _ _ _ _ (eq-eqb v 0 z) }
+  module _ (v : Position) (ev : v .0 ≡ valueOf o p) (t₄ : Bool) (e₄ : t₄ ≡ eqb (v .0) 0) where
+    pub next-none : t₄ ≡ true → NextPlan o p (No Pointer)
+    next-none z = record { plan = next-is (v .0) _ _ ev refl refl ∙ stop-4 _ _ _ _ _ (sym e₄ ∙ z) }
 
-    module _ (d : v ≡ 0 → ⊥) (k : Bool) (ek : k ≡ lacksPermit p 0 (o .permit)) where
-      pub next-permit : k ≡ true → NextPlan o p (No Permit)
-      next-permit q = record { plan = next-is v _ _ ev refl refl ∙ stop-5 _ _ _ _ _ (ne-eqb v 0 d) (sym ek ∙ q) }
+    module _ (d : t₄ ≡ false) (t₅ : Bool) (e₅ : t₅ ≡ lacksPermit p 0 (o .permit)) where
+      pub next-permit : t₅ ≡ true → NextPlan o p (No Permit)
+      next-permit q = record { plan = next-is (v .0) _ _ ev refl refl ∙ stop-5 _ _ _ _ _ (sym e₄ ∙ d) (sym e₅ ∙ q) }
 
-      module _ (ok : k ≡ false) (b : ℕ) (eb : b ≡ valueOf o 0) where
-        pub next-below : v < b → NextPlan o p (No Below)
-        next-below l = record { plan = next-is v b _ ev eb refl ∙ stop-6 _ _ _ _ _ (ne-eqb v 0 d) (sym ek ∙ ok) (lt-ltb v b l) }
+      module _ (ok : t₅ ≡ false) (b : ℕ) (eb : b ≡ valueOf o 0) (t₆ : Bool) (e₆ : t₆ ≡ ltb (v .0) b) where
+        pub next-below : t₆ ≡ true → NextPlan o p (No Below)
+        next-below l = record { plan = next-is (v .0) b _ ev eb refl ∙ stop-6 _ _ _ _ _ (sym e₄ ∙ d) (sym e₅ ∙ ok) (sym e₆ ∙ l) }
 
-        module _ (low : b ≤ v) (e : ℕ) (ee : e ≡ valueOf o 1) where
-          pub next-beyond : e ≤ v → NextPlan o p (No Beyond)
-          next-beyond l = record { plan = next-is v b e ev eb ee ∙ stop-7 _ _ _ _ _ (ne-eqb v 0 d) (sym ek ∙ ok) (le-ltb v b low) (le-leb e v l) }
+        pub next-beyond : t₆ ≡ false → (e : ℕ) → e ≡ valueOf o 1 → (t₇ : Bool) → t₇ ≡ leb e (v .0) → t₇ ≡ true → NextPlan o p (No Beyond)
+        next-beyond low e ee t₇ e₇ l = record { plan = next-is (v .0) b e ev eb ee ∙ stop-7 _ _ _ _ _ (sym e₄ ∙ d) (sym e₅ ∙ ok) (sym e₆ ∙ low) (sym e₇ ∙ l) }
 
-          pub next-there : v < e → OpenFile o → (x : Position) (g : Segment) → x ≡ position v → g ≡ segmentFor o (x .0) → NextPlan o p (At g x)
-          unfolding nextUse
-          next-there l w x g ex eg =
-              let q : x .0 ≡ v = ap (λ (y : Position). y .0) ex in
-              let n = next-is v b e ev eb ee ∙ go-on _ _ _ _ (nextUse v) (ne-eqb v 0 d) (sym ek ∙ ok) (le-ltb v b low) (lt-leb e v l) in
+      -- between begin and end
+      pub next-there : t₅ ≡ false → valueOf o 0 ≤ v .0 → v .0 < valueOf o 1 → OpenFile o → (g : Segment) → g ≡ segmentFor o (v .0) → NextPlan o p (At g v)
+      unfolding nextUse
+      next-there ok low high w g eg =
+          record {
+            plan = (
+              sym ev,
               record {
-                plan = (
-                  sym ev ∙ sym q,
-                  record {
-                    known = let k = value-some o p (w .pointers8) (λ z. d (ev ∙ z)) in omega arith;
-                    lies = record { low = omega arith; high = omega arith; which = eg };
-                    told = n ∙ ap (λ (y : ℕ). done (nextUse y)) (sym q);
-                  },
-                );
-              }
+                known = let k = value-some o p (w .pointers8) (λ z. none-not t₄ (v .0) e₄ d (ev ∙ z)) in omega arith;
+                lies = record { low = low; high = high; which = eg };
+                told = next-is (v .0) _ _ ev refl refl
+                    ∙ go-on _ _ _ _ (nextUse (v .0)) (sym e₄ ∙ d) (sym e₅ ∙ ok) (le-ltb (v .0) (valueOf o 0) low) (lt-leb (valueOf o 1) (v .0) high);
+              },
+            );
+          }
 
 -- ---- prev
 
@@ -106,36 +105,48 @@ module _ (o : Opening) (p : ℕ) where
       λ i. let v′ = (value-in o p ∙ sym ev) i in
       fourTests (eqb v′ 0) (lacksPermit p 1 (o .permit)) (leb v′ ((value-in o 0 ∙ sym eb) i)) (ltb ((value-in o 1 ∙ sym ee) i) v′) (prevUse (v′ - 1))
 
-  module _ (v : ℕ) (ev : v ≡ valueOf o p) where
-    pub prev-none : v ≡ 0 → PrevPlan o p (No Pointer)
-    prev-none z = record { plan = prev-is v _ _ ev refl refl ∙ stop-4 _ _ _ _ _ (eq-eqb v 0 z) }
+  module _ (v : Position) (ev : v .0 ≡ valueOf o p) (t₄ : Bool) (e₄ : t₄ ≡ eqb (v .0) 0) where
+    pub prev-none : t₄ ≡ true → PrevPlan o p (No Pointer)
+    prev-none z = record { plan = prev-is (v .0) _ _ ev refl refl ∙ stop-4 _ _ _ _ _ (sym e₄ ∙ z) }
 
-    module _ (d : v ≡ 0 → ⊥) (k : Bool) (ek : k ≡ lacksPermit p 1 (o .permit)) where
-      pub prev-permit : k ≡ true → PrevPlan o p (No Permit)
-      prev-permit q = record { plan = prev-is v _ _ ev refl refl ∙ stop-5 _ _ _ _ _ (ne-eqb v 0 d) (sym ek ∙ q) }
+    module _ (d : t₄ ≡ false) (t₅ : Bool) (e₅ : t₅ ≡ lacksPermit p 1 (o .permit)) where
+      pub prev-permit : t₅ ≡ true → PrevPlan o p (No Permit)
+      prev-permit q = record { plan = prev-is (v .0) _ _ ev refl refl ∙ stop-5 _ _ _ _ _ (sym e₄ ∙ d) (sym e₅ ∙ q) }
 
-      module _ (ok : k ≡ false) (b : ℕ) (eb : b ≡ valueOf o 0) where
-        pub prev-below : v ≤ b → PrevPlan o p (No Below)
-        prev-below l = record { plan = prev-is v b _ ev eb refl ∙ stop-6 _ _ _ _ _ (ne-eqb v 0 d) (sym ek ∙ ok) (le-leb v b l) }
+      module _ (ok : t₅ ≡ false) (b : ℕ) (eb : b ≡ valueOf o 0) (t₆ : Bool) (e₆ : t₆ ≡ leb (v .0) b) where
+        pub prev-below : t₆ ≡ true → PrevPlan o p (No Below)
+        prev-below l = record { plan = prev-is (v .0) b _ ev eb refl ∙ stop-6 _ _ _ _ _ (sym e₄ ∙ d) (sym e₅ ∙ ok) (sym e₆ ∙ l) }
 
-        module _ (low : b < v) (e : ℕ) (ee : e ≡ valueOf o 1) where
-          pub prev-beyond : e < v → PrevPlan o p (No Beyond)
-          prev-beyond l = record { plan = prev-is v b e ev eb ee ∙ stop-7 _ _ _ _ _ (ne-eqb v 0 d) (sym ek ∙ ok) (lt-leb v b low) (lt-ltb e v l) }
+        pub prev-beyond : t₆ ≡ false → (e : ℕ) → e ≡ valueOf o 1 → (t₇ : Bool) → t₇ ≡ ltb e (v .0) → t₇ ≡ true → PrevPlan o p (No Beyond)
+        prev-beyond low e ee t₇ e₇ l = record { plan = prev-is (v .0) b e ev eb ee ∙ stop-7 _ _ _ _ _ (sym e₄ ∙ d) (sym e₅ ∙ ok) (sym e₆ ∙ low) (sym e₇ ∙ l) }
 
-          pub prev-there : v ≤ e → OpenFile o → (x : Position) (g : Segment) → x ≡ position (v - 1) → g ≡ segmentFor o (x .0) → PrevPlan o p (At g x)
-          unfolding prevUse
-          prev-there l w x g ex eg =
-              let q : x .0 ≡ v - 1 = ap (λ (y : Position). y .0) ex in
-              let n = prev-is v b e ev eb ee ∙ go-on _ _ _ _ (prevUse (v - 1)) (ne-eqb v 0 d) (sym ek ∙ ok) (lt-leb v b low) (le-ltb e v l) in
+      -- x is the position before, between begin and end
+      pub prev-there : t₅ ≡ false → (x : Position) → x .0 ≡ v .0 - 1 → valueOf o 0 ≤ x .0 → x .0 < valueOf o 1 → OpenFile o → (g : Segment) → g ≡ segmentFor o (x .0) → PrevPlan o p (At g x)
+      unfolding prevUse
+      prev-there ok x ex low high w g eg =
+          let f = w .first in
+          let n = prev-is (v .0) _ _ ev refl refl
+          ∙ go-on _ _ _ _ (prevUse (v .0 - 1)) (sym e₄ ∙ d) (sym e₅ ∙ ok) (lt-leb (v .0) (valueOf o 0) (omega arith)) (le-ltb (valueOf o 1) (v .0) (omega arith)) in
+          record {
+            plan = (
+              omega arith,
               record {
-                plan = (
-                  omega arith,
-                  record {
-                    known = let k = value-some o p (w .pointers8) (λ z. d (ev ∙ z)) in omega arith;
-                    lies = record { low = omega arith; high = omega arith; which = eg };
-                    told = n ∙ ap (λ (y : ℕ). done (prevUse y)) (sym q);
-                  },
-                );
-              }
+                known = let k = value-some o p (w .pointers8) (λ z. none-not t₄ (v .0) e₄ d (ev ∙ z)) in omega arith;
+                lies = record { low = low; high = high; which = eg };
+                told = n ∙ ap (λ (y : ℕ). done (prevUse y)) (sym ex);
+              },
+            );
+          }
 
 pub ruleset chains = (next-none, next-permit, next-below, next-beyond, next-there, prev-none, prev-permit, prev-below, prev-beyond, prev-there)
+
+-- the position before v
+pub some-before : {m v : ℕ} → m < v → 1 ≤ v
+some-before l = omega arith
+
+module _ (o : Opening) (v x : ℕ) (ex : x ≡ v - 1) (low : valueOf o 0 < v) where
+  pub before-low : valueOf o 0 ≤ x
+  before-low = omega arith
+
+  pub before-high : v ≤ valueOf o 1 → x < valueOf o 1
+  before-high l = omega arith

@@ -31,10 +31,10 @@ use Rattle.cells.specs.Outcomes.{Lent, lent, outcome}
 use Rattle.placing.specs.laws.Held.{slot-within}
 use Rattle.opening_laws.specs.Back.{OpenFile, first-back, last-back, stay-back}
 use Rattle.opening_laws.specs.Shared.{segment-in}
+use Rattle.gate_laws.specs.Known.{Known}
+use Rattle.gate_laws.specs.Used.{usedOut, used-no, used-done}
 use Rattle.call_next_prev.specs.declared.Reading.{Reading}
 use Rattle.call_next_prev.specs.declared.Reading.the-variants.{No, At}
-use Rattle.call_next_prev.specs.Known.{Known}
-use Rattle.call_next_prev.specs.Used.{usedOut, used-no, used-done}
 use Rattle.call_next_prev.specs.Reads.{nextLeft, prevLeft, Delivers, NextSaid, PrevSaid, NextPlan, PrevPlan, delivered}
 
 -- ---- the opening that is put back

@@ -1,3 +1,4 @@
+-- Laws that the proofs of the code share. Assumes nothing.
 pub mod Chains
 pub mod Delivers
 pub mod Calls

@@ -45,17 +45,17 @@ module _ (o : Opening) (p : ℕ) (r : Opening) where
   unfolding nextLeft
   next-first z e = simp (eq-eqb p 0 z) e
 
-  pub next-other : (p ≡ 0 → ⊥) → (x : Position) → x ≡ position (valueOf o p + 1) → r ≡ pointed o p x → r ≡ nextLeft o p
+  pub next-other : (p ≡ 0 → ⊥) → (v x : Position) → v .0 ≡ valueOf o p → x .0 ≡ v .0 + 1 → r ≡ pointed o p x → r ≡ nextLeft o p
   unfolding nextLeft
-  next-other d x ex e = simp (ne-eqb p 0 d) (e ∙ ap (pointed o p) ex)
+  next-other d v x ev ex e = simp (ne-eqb p 0 d) (e ∙ ap (λ (n : ℕ). pointed o p (position n)) (ex ∙ ap (λ (n : ℕ). n + 1) ev))
 
   pub prev-last : p ≡ 1 → r ≡ lastLeft o → r ≡ prevLeft o p
   unfolding prevLeft
   prev-last z e = simp (eq-eqb p 1 z) e
 
-  pub prev-other : (p ≡ 1 → ⊥) → (x : Position) → x ≡ position (valueOf o p - 1) → r ≡ pointed o p x → r ≡ prevLeft o p
+  pub prev-other : (p ≡ 1 → ⊥) → (v x : Position) → v .0 ≡ valueOf o p → x .0 ≡ v .0 - 1 → r ≡ pointed o p x → r ≡ prevLeft o p
   unfolding prevLeft
-  prev-other d x ex e = simp (ne-eqb p 1 d) (e ∙ ap (pointed o p) ex)
+  prev-other d v x ev ex e = simp (ne-eqb p 1 d) (e ∙ ap (λ (n : ℕ). pointed o p (position n)) (ex ∙ ap (λ (n : ℕ). n - 1) ev))
 
 -- pointers 0 and 1 between begin and end: there is an element
 pub some-first : (o : Opening) (p : ℕ) → p ≡ 0 → valueOf o p < valueOf o 1 → valueOf o 0 < valueOf o 1
@@ -64,10 +64,4 @@ some-first o p z l = subst (λ (q : ℕ). valueOf o q < valueOf o 1) z l
 pub some-last : (o : Opening) (p : ℕ) → p ≡ 1 → valueOf o 0 < valueOf o p → valueOf o 0 < valueOf o 1
 some-last o p z l = subst (λ (q : ℕ). valueOf o 0 < valueOf o q) z l
 
-pub at-next : (x : Position) (n m : ℕ) → x ≡ position (n + 1) → n ≡ m → x ≡ position (m + 1)
-at-next x n m e q = e ∙ ap (λ (y : ℕ). position (y + 1)) q
-
-pub at-last : (x : Position) (n m : ℕ) → x ≡ position (n - 1) → n ≡ m → x ≡ position (m - 1)
-at-last x n m e q = e ∙ ap (λ (y : ℕ). position (y - 1)) q
-
-pub ruleset steps = (at-next, at-last, next-first, next-other, prev-last, prev-other, some-first, some-last)
+pub ruleset steps = (next-first, next-other, prev-last, prev-other, some-first, some-last)

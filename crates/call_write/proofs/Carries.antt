@@ -12,6 +12,7 @@ use Rattle.combine.specs.Outcome.{Outcome, outcomeOf}
 use Rattle.answers.specs.declared.Refusal.{Refusal}
 use Rattle.answers.specs.declared.Answer.the-variants.{Done, Refused}
 use Rattle.placing.specs.declared.Segment.{Segment}
+use Rattle.placing.specs.declared.Position.{Position}
 use Rattle.placing.specs.Placing.{segment, position, slotOf}
 use Rattle.store.specs.Store.{putElement, zeroed, copied}
 use Rattle.rules.specs.Headings.{opening, moved, slotIn}
@@ -26,12 +27,22 @@ use Rattle.cells.specs.Says.{openingIn, houseOf, asOpening}
 use Rattle.cells.specs.Outcomes.{Lent, lent, outcome}
 use Rattle.opening_laws.specs.Deeded.{withSegments, withSegment, firstLeft}
 use Rattle.opening_laws.specs.Back.{OpenFile, store-back, first-back}
-use Rattle.call_next_prev.specs.Used.{usedOut, used-no, used-done}
-use Rattle.call_next_prev.specs.Known.{Known}
+use Rattle.gate_laws.specs.Known.{Known}
+use Rattle.gate_laws.specs.Used.{usedOut, used-no, used-done}
 use Rattle.write_plan.specs.declared.Plan.{Plan}
 use Rattle.write_plan.specs.declared.Plan.the-variants.{No, Drop, Put, Copy, Zero}
 use Rattle.write_plan.specs.Plans.{writeVerdict, Stores, preparedFor, Says, Planned}
 use Rattle.call_write.specs.Settled.{settled, Moves}
+
+-- ---- the element is put, the pointer grows: v is its value, x the one after
+
+pub settle-done : (s t s′ t′ : List ℕ) (i : ℕ) (o m : Opening) (p n : ℕ) (g : Segment) (v x : Position) → v .0 ≡ valueOf o p → x .0 ≡ v .0 + 1
+    → s′ ≡ putElement s (o .species) g v n → m ≡ pointed o p x → t′ ≡ putOpening t i m → outcome (Done 0) s′ t′ ≡ settled s t i o p n g
+unfolding settled
+settle-done s t s′ t′ i o m p n g v x ev ex es em et =
+    let store : s′ ≡ putElement s (o .species) g (position (valueOf o p)) n = es ∙ ap (λ (k : ℕ). putElement s (o .species) g (position k) n) ev in
+    let grown : m ≡ pointed o p (position (valueOf o p + 1)) = em ∙ ap (λ (k : ℕ). pointed o p (position k)) (ex ∙ ap (λ (k : ℕ). k + 1) ev) in
+    λ j. outcomeOf (done 0) (lent (store j) ((et ∙ ap (putOpening t i) grown) j))
 
 -- ---- the use that stores
 

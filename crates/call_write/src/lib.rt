@@ -4,15 +4,15 @@ ghost use Prim.Native.Nat.{_+_, _*_, _≤_, _<_};
 ghost use lib.ListN.{length};
 ghost use Rattle.placing.specs.Sizes.{segmentCells, tablesLength, entries};
 ghost use Rattle.rules.specs.Calls.{uses, write};
-ghost use Rattle.tables.specs.Layout.{segmentsIn};
+ghost use Rattle.tables.specs.Layout.{segmentsIn, openingAt};
 ghost use Rattle.cells.specs.Outcomes.{outcome, requestOut};
-ghost use Rattle.call_next_prev.specs.Known.{Known};
-ghost use Rattle.call_next_prev.specs.Used.{usedOut};
+ghost use Rattle.gate_laws.specs.Standing.{Standing};
+ghost use Rattle.gate_laws.specs.Known.{Known};
+ghost use Rattle.gate_laws.specs.Used.{usedOut};
 ghost use Rattle.write_plan.specs.Plans.{writeVerdict, Planned};
 ghost use Rattle.call_write.specs.Settled.{settled, Moves};
 use answers::Answer;
 use gate::Gate;
-use placing::Position;
 use placing::Segment;
 use tables::Opening;
 use write_plan::Plan;
@@ -31,12 +31,13 @@ fn settle(
     ensures { λ r. ⌜ outcome r (now (store .exit)) (now (tables .exit)) ≡ settled (now (store .entry)) (now (tables .entry)) entry opening pointer number segment ⌝ }
 {
     let value = opening.value(pointer);
-    store::put_element(store, opening.species, segment, Position::of(value), number);
-    let after = opening.step(pointer, Position::of(value + 1));
+    store::put_element(store, opening.species, segment, value, number);
+    let after = opening.step(pointer, value.after());
     tables_openings::put_opening(tables, entry, after);
     Answer::Done(0)
 }
 
+// A plan that was decided for the opening is carried out.
 fn carry(
     store: &mut [u32],
     tables: &mut [u32],
@@ -71,6 +72,22 @@ fn carry(
     }
 }
 
+// The call `write` behind the gate, at an open entry of 32.
+pub fn write_at(
+    store: &mut [u32],
+    tables: &mut [u32],
+    at: usize,
+    pointer: u32,
+    number: u32,
+) -> Answer
+    requires { ⌜ Standing (length (now store)) (now tables) at ⌝ }
+    ensures { λ r. ⌜ outcome r (now (store .exit)) (now (tables .exit)) ≡ usedOut (now (store .entry)) (now (tables .entry)) at (openingAt (now (tables .entry)) at) (writeVerdict (now (tables .entry)) (openingAt (now (tables .entry)) at) pointer number) ⌝ }
+{
+    let opening = tables_openings::load_opening(tables, at);
+    let plan = write_plan::decide(tables, opening, pointer);
+    carry(store, tables, at, opening, pointer, number, plan)
+}
+
 // Writes a number through a pointer of an entry of a user.
 pub fn write(
     store: &mut [u32],
@@ -85,10 +102,6 @@ pub fn write(
     let reached = gate::reach(store.len(), tables, user, entry);
     match reached {
         Gate::No(why) => Answer::Refused(why),
-        Gate::At(at) => {
-            let opening = tables_openings::load_opening(tables, at);
-            let plan = write_plan::decide(tables, opening, pointer);
-            carry(store, tables, at, opening, pointer, number, plan)
-        }
+        Gate::At(at) => write_at(store, tables, at, pointer, number),
     }
 }

@@ -1,2 +1,6 @@
--- What is known behind the gate. Assumes nothing.
+-- What is known behind the gate, and what a use of an open entry comes to there. Assumes nothing.
 pub mod Behind
+pub mod Standing
+pub mod Known
+pub mod Used
+pub mod Gated

@@ -19,23 +19,16 @@ use Rattle.opening_laws.specs.Deeded.{withSegment, shifted, firstLeft, lastLeft
 use Rattle.opening_laws.specs.Back.{OpenFile}
 use Rattle.opening_steps.specs.Spans.{Spans, file-spans, begin-spans, begin-holds, end-spans, end-holds}
 
--- a position that is made of a number
-pub number-is : (x : Position) (n : ℕ) → x ≡ position n → x .0 ≡ n
-number-is x n e = ap (λ (y : Position). y .0) e
+-- ---- what an opening holds: b is its begin, e its end
 
-pub at-value : (x : Position) (n m : ℕ) → x ≡ position n → n ≡ m → x ≡ position m
-at-value x n m e q = e ∙ ap position q
+module _ (o : Opening) (b : ℕ) (eb : b ≡ valueOf o 0) where
+  pub held-from : (h e : ℕ) → h ≡ heldOf (o .species) b e → e ≡ valueOf o 1 → h ≡ heldOf (o .species) (valueOf o 0) (valueOf o 1)
+  held-from h e eh ee = eh ∙ (λ i. heldOf (o .species) (eb i) (ee i))
 
--- ---- what an opening holds: y is its begin, z its end
+  pub place-from : (k x : ℕ) → k ≡ slotOf (o .species) b x → k ≡ slotOf (o .species) (valueOf o 0) x
+  place-from k x e = e ∙ ap (λ (j : ℕ). slotOf (o .species) j x) eb
 
-module _ (o : Opening) (y : Position) (ey : y ≡ position (valueOf o 0)) where
-  pub held-from : (h : ℕ) (z : Position) → h ≡ heldOf (o .species) (y .0) (z .0) → z ≡ position (valueOf o 1) → h ≡ heldOf (o .species) (valueOf o 0) (valueOf o 1)
-  held-from h z e ez = e ∙ (λ i. heldOf (o .species) (ey i .0) (ez i .0))
-
-  pub place-from : (k x : ℕ) → k ≡ slotOf (o .species) (y .0) x → k ≡ slotOf (o .species) (valueOf o 0) x
-  place-from k x e = e ∙ ap (λ (j : Position). slotOf (o .species) (j .0) x) ey
-
-pub ruleset counts = (at-value, held-from, place-from)
+pub ruleset counts = (held-from, place-from)
 
 -- ---- a list of 32 without its first: the first i are those from the second on, the others zero
 
@@ -59,16 +52,19 @@ module _ (g l : List Segment) (i : ℕ) (long : length g ≡ 32) (e : l ≡ take
   pub second-done : i ≡ 31 → l ≡ drop 1 g ++ (segment 0 ∷ [])
   second-done h = e ∙ ap (λ (j : ℕ). take j (drop 1 g) ++ replicate (32 - j) (segment 0)) h ∙ ap (λ (x : List Segment). x ++ (segment 0 ∷ [])) (take-all 31 (drop 1 g) (omega (arith, rest)))
 
--- ---- the opening o, and m with its begin or its end moved to x; h and h′ are what they hold
+-- ---- the opening o, and m with its begin or its end moved from v to x; h and h′ are what they hold
 
-module _ (o m : Opening) (w : OpenFile o) (there : valueOf o 0 < valueOf o 1) (x : Position) (n : ℕ) (h h′ : ℕ)
+module _ (o m : Opening) (w : OpenFile o) (there : valueOf o 0 < valueOf o 1) (v x : Position) (h h′ : ℕ)
     (eh : h ≡ heldOf (o .species) (valueOf o 0) (valueOf o 1)) (eh′ : h′ ≡ heldOf (m .species) (valueOf m 0) (valueOf m 1)) where
-  module _ (en : n ≡ valueOf o 0) (ex : x ≡ position (n + 1)) (em : m ≡ pointed o 0 x) where
+  module _ (ev : v .0 ≡ valueOf o 0) (ex : x .0 ≡ v .0 + 1) (em : m ≡ pointed o 0 x) where
+    second : x .0 ≡ valueOf o 0 + 1
+    second = ex ∙ ap (λ (k : ℕ). k + 1) ev
+
     first-moved : m ≡ pointed o 0 (position (valueOf o 0 + 1))
-    first-moved = em ∙ ap (pointed o 0) (ex ∙ ap (λ (k : ℕ). position (k + 1)) en)
+    first-moved = em ∙ ap (λ (k : ℕ). pointed o 0 (position k)) second
 
     first-test : ltb (heldOf (o .species) (valueOf o 0 + 1) (valueOf o 1)) (heldOf (o .species) (valueOf o 0) (valueOf o 1)) ≡ ltb h′ h
-    first-test = sym (λ i. ltb ((eh′ ∙ begin-holds o m w x (n + 1) ex em ∙ ap (λ (k : ℕ). heldOf (o .species) (k + 1) (valueOf o 1)) en) i) (eh i))
+    first-test = sym (λ i. ltb ((eh′ ∙ begin-holds o m w x em ∙ ap (λ (k : ℕ). heldOf (o .species) k (valueOf o 1)) second) i) (eh i))
 
     pub first-shift : (r : Opening) → h′ < h → r ≡ shifted m → r ≡ firstLeft o
     unfolding firstLeft
@@ -78,12 +74,15 @@ module _ (o m : Opening) (w : OpenFile o) (there : valueOf o 0 < valueOf o 1) (x
     unfolding firstLeft
     first-stay l = simp (first-test, le-ltb h′ h l) first-moved
 
-  module _ (en : n ≡ valueOf o 1) (ex : x ≡ position (n - 1)) (em : m ≡ pointed o 1 x) where
+  module _ (ev : v .0 ≡ valueOf o 1) (ex : x .0 ≡ v .0 - 1) (em : m ≡ pointed o 1 x) where
+    final : x .0 ≡ valueOf o 1 - 1
+    final = ex ∙ ap (λ (k : ℕ). k - 1) ev
+
     last-moved : m ≡ pointed o 1 (position (valueOf o 1 - 1))
-    last-moved = em ∙ ap (pointed o 1) (ex ∙ ap (λ (k : ℕ). position (k - 1)) en)
+    last-moved = em ∙ ap (λ (k : ℕ). pointed o 1 (position k)) final
 
     last-test : ltb (heldOf (o .species) (valueOf o 0) (valueOf o 1 - 1)) (heldOf (o .species) (valueOf o 0) (valueOf o 1)) ≡ ltb h′ h
-    last-test = sym (λ i. ltb ((eh′ ∙ end-holds o m w x (n - 1) ex em ∙ ap (λ (k : ℕ). heldOf (o .species) (valueOf o 0) (k - 1)) en) i) (eh i))
+    last-test = sym (λ i. ltb ((eh′ ∙ end-holds o m w x em ∙ ap (λ (k : ℕ). heldOf (o .species) (valueOf o 0) k) final) i) (eh i))
 
     pub last-gone : (r : Opening) (g : Segment) → h′ < h → g ≡ segment 0 → r ≡ withSegment m (h - 1) g → r ≡ lastLeft o
     unfolding lastLeft
@@ -93,12 +92,12 @@ module _ (o m : Opening) (w : OpenFile o) (there : valueOf o 0 < valueOf o 1) (x
     unfolding lastLeft
     last-stay l = simp (last-test, le-ltb h′ h l) last-moved
 
-module _ (o m : Opening) (w : OpenFile o) (there : valueOf o 0 < valueOf o 1) (x : Position) (n : ℕ) where
-  pub first-spans : m ≡ pointed o 0 x → x ≡ position (n + 1) → n ≡ valueOf o 0 → Spans m
-  first-spans em ex en = begin-spans o m w x (n + 1) ex em (omega arith) (omega arith)
+module _ (o m : Opening) (w : OpenFile o) (there : valueOf o 0 < valueOf o 1) (v x : Position) where
+  pub first-spans : m ≡ pointed o 0 x → x .0 ≡ v .0 + 1 → v .0 ≡ valueOf o 0 → Spans m
+  first-spans em ex ev = begin-spans o m w x em (omega arith) (omega arith)
 
-  pub last-spans : m ≡ pointed o 1 x → x ≡ position (n - 1) → n ≡ valueOf o 1 → Spans m
-  last-spans em ex en = let l = w .last in end-spans o m w x (n - 1) ex em (omega arith) (omega arith)
+  pub last-spans : m ≡ pointed o 1 x → x .0 ≡ v .0 - 1 → v .0 ≡ valueOf o 1 → Spans m
+  last-spans em ex ev = let l = w .last in end-spans o m w x em (omega arith) (omega arith)
 
 pub last-small : (o : Opening) (h : ℕ) → OpenFile o → h ≡ heldOf (o .species) (valueOf o 0) (valueOf o 1) → h - 1 < mostHeld
 last-small o h w e = let f = w .few in omega arith

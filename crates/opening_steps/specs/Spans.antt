@@ -34,39 +34,39 @@ module _ (o : Opening) (p : ℕ) (x : Position) where
   unfolding valueOf
   value-other q d = ap positionNumber (getD-set-other (o .pointers) p q x (position 0) d)
 
-module _ (o m : Opening) (w : OpenFile o) (x : Position) (n : ℕ) (ex : x ≡ position n) where
-  -- the begin at n
+module _ (o m : Opening) (w : OpenFile o) (x : Position) where
+  -- the begin at x
   module _ (em : m ≡ pointed o 0 x) where
-    begin-at : valueOf m 0 ≡ n
-    begin-at = ap (λ (y : Opening). valueOf y 0) em ∙ value-there o 0 x (w .pointers8) (omega arith) ∙ ap positionNumber ex
+    begin-at : valueOf m 0 ≡ x .0
+    begin-at = ap (λ (y : Opening). valueOf y 0) em ∙ value-there o 0 x (w .pointers8) (omega arith)
 
     end-stays : valueOf m 1 ≡ valueOf o 1
     end-stays = ap (λ (y : Opening). valueOf y 1) em ∙ value-other o 0 x 1 (λ q. omega arith)
 
-    pub begin-spans : 1 ≤ n → n ≤ valueOf o 1 → Spans m
+    pub begin-spans : 1 ≤ x .0 → x .0 ≤ valueOf o 1 → Spans m
     begin-spans l h =
         let s : m .species ≡ o .species = ap (λ (y : Opening). y .species) em in
         let a = w .species in
         let b = w .last in
         record { species = omega arith; first = omega (arith, begin-at); order = omega (arith, begin-at, end-stays); last = omega (arith, end-stays) }
 
-    pub begin-holds : heldOf (m .species) (valueOf m 0) (valueOf m 1) ≡ heldOf (o .species) n (valueOf o 1)
+    pub begin-holds : heldOf (m .species) (valueOf m 0) (valueOf m 1) ≡ heldOf (o .species) (x .0) (valueOf o 1)
     begin-holds = λ i. heldOf (em i .species) (begin-at i) (end-stays i)
 
-  -- the end at n
+  -- the end at x
   module _ (em : m ≡ pointed o 1 x) where
-    end-at : valueOf m 1 ≡ n
-    end-at = ap (λ (y : Opening). valueOf y 1) em ∙ value-there o 1 x (w .pointers8) (omega arith) ∙ ap positionNumber ex
+    end-at : valueOf m 1 ≡ x .0
+    end-at = ap (λ (y : Opening). valueOf y 1) em ∙ value-there o 1 x (w .pointers8) (omega arith)
 
     begin-stays : valueOf m 0 ≡ valueOf o 0
     begin-stays = ap (λ (y : Opening). valueOf y 0) em ∙ value-other o 1 x 0 (λ q. omega arith)
 
-    pub end-spans : valueOf o 0 ≤ n → n ≤ greatestEnd → Spans m
+    pub end-spans : valueOf o 0 ≤ x .0 → x .0 ≤ greatestEnd → Spans m
     end-spans l h =
         let s : m .species ≡ o .species = ap (λ (y : Opening). y .species) em in
         let a = w .species in
         let b = w .first in
         record { species = omega arith; first = omega (arith, begin-stays); order = omega (arith, begin-stays, end-at); last = omega (arith, end-at) }
 
-    pub end-holds : heldOf (m .species) (valueOf m 0) (valueOf m 1) ≡ heldOf (o .species) (valueOf o 0) n
+    pub end-holds : heldOf (m .species) (valueOf m 0) (valueOf m 1) ≡ heldOf (o .species) (valueOf o 0) (x .0)
     end-holds = λ i. heldOf (em i .species) (begin-stays i) (end-at i)

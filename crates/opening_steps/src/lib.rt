@@ -18,8 +18,8 @@ pub fn holds(opening: Opening) -> u32
     requires { ⌜ Spans opening ⌝ }
     ensures { λ r. ⌜ r ≡ heldOf (opening .species) (valueOf opening 0) (valueOf opening 1) ⌝ }
 {
-    let begin = Position::of(opening.value(0));
-    let end = Position::of(opening.value(1));
+    let begin = opening.value(0);
+    let end = opening.value(1);
     placing::held(opening.species, begin, end)
 }
 
@@ -28,7 +28,7 @@ pub fn place_of(opening: Opening, position: Position) -> u32
     requires { ⌜ Spans opening × (valueOf opening 0 ≤ position .0) ⌝ }
     ensures { λ r. ⌜ r ≡ slotOf (opening .species) (valueOf opening 0) (position .0) ⌝ }
 {
-    let begin = Position::of(opening.value(0));
+    let begin = opening.value(0);
     position.slot(begin, opening.species)
 }
 
@@ -72,7 +72,8 @@ pub fn first_left(opening: Opening) -> Opening
     ensures { λ r. ⌜ r ≡ firstLeft opening ⌝ }
 {
     let begin = opening.value(0);
-    let moved = opening.step(0, Position::of(begin + 1));
+    let next = begin.after();
+    let moved = opening.step(0, next);
     if holds(moved) < holds(opening) {
         return shift(moved);
     }
@@ -85,7 +86,8 @@ pub fn last_left(opening: Opening) -> Opening
     ensures { λ r. ⌜ r ≡ lastLeft opening ⌝ }
 {
     let end = opening.value(1);
-    let moved = opening.step(1, Position::of(end - 1));
+    let last = end.before();
+    let moved = opening.step(1, last);
     let held = holds(opening);
     if holds(moved) < held {
         return with_segment(moved, (held - 1) as usize, Segment::of(0));

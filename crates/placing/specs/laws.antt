@@ -1,3 +1,4 @@
 -- The laws of this crate's definitions, which other crates cite. Assumes nothing.
 pub mod Sized
 pub mod Held
+pub mod Tests

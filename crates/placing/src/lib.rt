@@ -1,7 +1,8 @@
 // "Segment numbers, positions and cell numbers are different kinds of number and are never to be mixed": each is a struct with a
 // private field, and one is made of another by the placing rules alone.
 ghost use mathlib.Core.Path.{_≡_};
-ghost use Prim.Native.Nat.{_≤_, _<_, _*_};
+ghost use Prim.Native.Nat.{_≤_, _<_, _+_, _-_, _*_};
+ghost use lib.Dec.{leb, ltb, eqb};
 ghost use Rattle.placing.specs.Sizes.{segmentCells, greatestEnd, greatestSpecies, widthOf, elementsOf, leastElements};
 ghost use Rattle.placing.specs.Placing.{
   segment,
@@ -68,8 +69,10 @@ pub const WIDTHS: [u32; 6] = [1, 2, 4, 8, 16, 32];
 // "so E = 2048, 1024, 512, 256, 128 and 64 elements in a segment"
 pub const ELEMENTS: [u32; 6] = [2048, 1024, 512, 256, 128, 64];
 
+// "The begin and end values are 1 to 16,777,215."
 pub const GREATEST_END: u32 = 16777215;
 
+// "A file holds at most 32 segments."
 pub const MOST_HELD: u32 = 32;
 
 // A segment has 64 elements or more, and so the stretches up to the greatest end are below this number.
@@ -143,6 +146,55 @@ impl Position {
         ensures { λ r. ⌜ r ≡ self .0 ⌝ }
     {
         self.0
+    }
+
+    // What stands for the value of a pointer that does not exist.
+    pub fn none() -> Position
+        ensures { λ r. ⌜ r .0 ≡ 0 ⌝ }
+    {
+        Position(0)
+    }
+
+    // Whether it is the value of no pointer: "not a pointer of the file" is 4.
+    pub fn is_none(self) -> bool
+        ensures { λ r. ⌜ r ≡ eqb (self .0) 0 ⌝ }
+    {
+        self.0 == 0
+    }
+
+    pub fn is_before(self, other: Position) -> bool
+        ensures { λ r. ⌜ r ≡ ltb (self .0) (other .0) ⌝ }
+    {
+        self.0 < other.0
+    }
+
+    pub fn is_at_most(self, other: Position) -> bool
+        ensures { λ r. ⌜ r ≡ leb (self .0) (other .0) ⌝ }
+    {
+        self.0 <= other.0
+    }
+
+    // Whether no end is beyond it: "An append refused for 10: e is 16,777,215."
+    pub fn is_last(self) -> bool
+        ensures { λ r. ⌜ r ≡ leb greatestEnd (self .0) ⌝ }
+    {
+        GREATEST_END <= self.0
+    }
+
+    // "v grows by 1"
+    pub fn after(self) -> Position
+        requires { ⌜ self .0 ≤ greatestEnd ⌝ }
+        ensures { λ r. ⌜ r .0 ≡ self .0 + 1 ⌝ }
+    {
+        Position(self.0 + 1)
+    }
+
+    // "v falls by 1"
+    pub fn before(self) -> Position
+        requires { ⌜ 1 ≤ self .0 ⌝ }
+        ensures { λ r. ⌜ r .0 ≡ self .0 - 1 ⌝ }
+    {
+        Position(self.0 - 1)
     }
 
     // "Position x lies in the file's stretch floor((x-1)/E)"

@@ -10,6 +10,8 @@ use lib.Dec.{eqb}
 use lib.ListN.{length, getD, drop, length-map, drop-of-length-le}
 use lib.Seq.{drop-cons}
 use Rattle.combine.specs.Lists.{firstWhere}
+use Rattle.placing.specs.declared.Position.{Position}
+use Rattle.placing.specs.laws.Tests.{none-so, none-not}
 use Rattle.rules.specs.Headings.{value}
 use Rattle.tables.specs.declared.Opening.{Opening}
 use Rattle.tables.specs.Layout.{positionNumber}
@@ -41,13 +43,14 @@ module _ (o : Opening) (i : ℕ) (eight : length (o .pointers) ≡ 8) (so-far : 
   unfolding points
   long = length-map (o .pointers) positionNumber ∙ eight
 
-  pub free-here : i < 8 → valueOf o i ≡ 0 → i ≡ lowestFreePointer o
-  unfolding points
-  free-here h e = sym (so-far ∙ first-here (eqb 0) points i 0 (omega (arith, long)) (eq-eqb 0 (value (handleIn o) i) (sym (value-in o i ∙ e))))
+  module _ (h : i < 8) (v : Position) (ev : v .0 ≡ valueOf o i) (b : Bool) (eb : b ≡ eqb (v .0) 0) where
+    pub free-here : b ≡ true → i ≡ lowestFreePointer o
+    unfolding points
+    free-here q = sym (so-far ∙ first-here (eqb 0) points i 0 (omega (arith, long)) (eq-eqb 0 (value (handleIn o) i) (sym (value-in o i ∙ sym ev ∙ none-so b (v .0) eb q))))
 
-  pub free-next : i < 8 → (valueOf o i ≡ 0 → ⊥) → lowestFreePointer o ≡ freeFrom o (i + 1)
-  unfolding points
-  free-next h d = so-far ∙ first-next (eqb 0) points i 0 (omega (arith, long)) (ne-eqb 0 (value (handleIn o) i) (λ e. d (sym (e ∙ value-in o i))))
+    pub free-next : b ≡ false → lowestFreePointer o ≡ freeFrom o (i + 1)
+    unfolding points
+    free-next q = so-far ∙ first-next (eqb 0) points i 0 (omega (arith, long)) (ne-eqb 0 (value (handleIn o) i) (λ e. none-not b (v .0) eb q (ev ∙ sym (e ∙ value-in o i))))
 
   pub free-end : 8 ≤ i → i ≡ lowestFreePointer o
   unfolding points

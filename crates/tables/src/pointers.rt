@@ -16,16 +16,15 @@ use answers::Refusal;
 use placing::Position;
 
 impl Opening {
-    // The value of a pointer, 0 where there is no such pointer; any number.
-    pub fn value(self, pointer: u32) -> u32
-        ensures { λ r. ⌜ r ≡ valueOf self pointer ⌝ }
+    // The value of a pointer, or what stands for it where there is no such pointer; any number.
+    pub fn value(self, pointer: u32) -> Position
+        ensures { λ r. ⌜ r .0 ≡ valueOf self pointer ⌝ }
     {
         if 7 < pointer {
-            return 0;
+            return Position::none();
         }
         let at = pointer as usize;
-        let found = self.pointers[at];
-        found.number()
+        self.pointers[at]
     }
 
     // "Reset puts pointer 2 at the begin value."
@@ -33,7 +32,7 @@ impl Opening {
         ensures { λ r. ⌜ r ≡ pointed self 2 (position (valueOf self 0)) ⌝ }
     {
         let begin = self.value(0);
-        self.step(2, Position::of(begin))
+        self.step(2, begin)
     }
 
     // The pointer at another position.
@@ -52,7 +51,7 @@ impl Opening {
     {
         let mut pointer = 3;
         while pointer < 8 {
-            if self.value(pointer) == 0 {
+            if self.value(pointer).is_none() {
                 return pointer;
             }
             pointer += 1;
@@ -64,8 +63,8 @@ impl Opening {
     pub fn new_pointer(self, pointer: u32) -> Answered
         ensures { λ r. ⌜ outcomeOf (said (r .answer)) (r .opening) ≡ settle self (onDone (carried self) (newPointerRule pointer (handleIn self))) ⌝ }
     {
-        let value = self.value(pointer);
-        if value == 0 {
+        let given = self.value(pointer);
+        if given.is_none() {
             return Answered {
                 answer: Answer::Refused(Refusal::Pointer),
                 opening: self,
@@ -78,7 +77,7 @@ impl Opening {
                 opening: self,
             };
         }
-        let opening = self.step(free, Position::of(value));
+        let opening = self.step(free, given);
         Answered {
             answer: Answer::Done(free),
             opening,
@@ -89,7 +88,8 @@ impl Opening {
     pub fn delete_pointer(self, pointer: u32) -> Answered
         ensures { λ r. ⌜ outcomeOf (said (r .answer)) (r .opening) ≡ settle self (onDone (carried self) (deletePointerRule pointer (handleIn self))) ⌝ }
     {
-        if self.value(pointer) == 0 {
+        let value = self.value(pointer);
+        if value.is_none() {
             return Answered {
                 answer: Answer::Refused(Refusal::Pointer),
                 opening: self,
@@ -101,7 +101,8 @@ impl Opening {
                 opening: self,
             };
         }
-        let opening = self.step(pointer, Position::of(0));
+        let none = Position::none();
+        let opening = self.step(pointer, none);
         Answered {
             answer: Answer::Done(0),
             opening,

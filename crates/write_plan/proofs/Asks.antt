@@ -13,7 +13,7 @@ use Rattle.tables.specs.Layout.{segmentsIn, recordAt}
 use Rattle.tables.specs.Fields.{recordFor}
 use Rattle.tables.specs.laws.RecordFacts.{SoundRecord}
 use Rattle.opening_laws.specs.Shared.{listsNumber, sharesNumber, shares-none, shares-listed}
-use Rattle.call_next_prev.specs.Known.{Known}
+use Rattle.gate_laws.specs.Known.{Known}
 
 module _ (t : List ℕ) (o : Opening) (g : ℕ) where
   pub no-record : o .place ≡ 0 → false ≡ sharesNumber t o g

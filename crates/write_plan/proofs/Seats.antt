@@ -12,17 +12,17 @@ use Rattle.combine.specs.laws.Verdict.{refused-here, went-on}
 use Rattle.answers.specs.declared.Refusal.the-variants.{Room}
 use Rattle.placing.specs.declared.Segment.{Segment}
 use Rattle.placing.specs.declared.Position.{Position}
-use Rattle.placing.specs.Placing.{segment, position, heldOf, slotOf}
+use Rattle.placing.specs.Placing.{segment, heldOf, slotOf}
 use Rattle.store.specs.Store.{zeroed, copied}
 use Rattle.segments.specs.Free.{SegmentOpening, SegmentHouse, lowestFree, hasRoom}
 use Rattle.segments.specs.Deeds.{lacks, segmentAt, sharesAt, takesAt, target, prepared}
 use Rattle.tables.specs.declared.Opening.{Opening}
-use Rattle.tables.specs.Layout.{segmentNumber, positionNumber, segmentsIn}
+use Rattle.tables.specs.Layout.{segmentNumber, segmentsIn}
 use Rattle.tables.specs.Fields.{valueOf, numberAt}
 use Rattle.cells.specs.Says.{openingIn, houseOf}
 use Rattle.opening_laws.specs.Shared.{sharesNumber, lacks-in, segment-in, shares-in}
 use Rattle.opening_steps.specs.Spans.{Spans, file-spans}
-use Rattle.call_next_prev.specs.Known.{Known}
+use Rattle.gate_laws.specs.Known.{Known}
 use Rattle.write_plan.specs.declared.Plan.the-variants.{No, Put, Copy, Zero}
 use Rattle.write_plan.specs.Plans.{Seats, seatVerdict, Stores, Planned}
 
@@ -55,9 +55,9 @@ module _ (t : List ℕ) (o : Opening) (p : ℕ) (w : Known t o) (z : Seats o p) 
       let b : hasRoom (houseOf t) ≡ false = room-is t ∙ le-ltb (lowestFree (houseOf t)) (segmentsIn t) l in
       record { says = λ n. refused-here 9 _ _ (rw (a, b) refl) }
 
-  module _ (v : ℕ) (ev : v ≡ valueOf o p) (x : Position) (ex : x ≡ position v) (k : ℕ) (kx : k ≡ slotOf (o .species) (valueOf o 0) (x .0)) where
+  module _ (v : Position) (ev : v .0 ≡ valueOf o p) (k : ℕ) (kv : k ≡ slotOf (o .species) (valueOf o 0) (v .0)) where
     ek : k ≡ slotOf (o .species) (valueOf o 0) (valueOf o p)
-    ek = kx ∙ ap (λ (j : ℕ). slotOf (o .species) (valueOf o 0) j) (ap positionNumber ex ∙ ev)
+    ek = kv ∙ ap (λ (j : ℕ). slotOf (o .species) (valueOf o 0) j) ev
 
     -- the element goes to g
     into : (g : Segment) → g ≡ segment (target (houseOf t) (openingIn o) (valueOf o p)) → g .0 < segmentsIn t → (takes && not (hasRoom (houseOf t))) ≡ false
@@ -157,10 +157,10 @@ module _ (t : List ℕ) (o : Opening) (p : ℕ) (w : Known t o) (z : Seats o p) 
               }
 
 -- the place is one of the list
-pub seat-index : (t : List ℕ) (o : Opening) (p : ℕ) → Seats o p → (v : ℕ) → v ≡ valueOf o p → (x : Position) → x ≡ position v → (k : ℕ) → k ≡ slotOf (o .species) (valueOf o 0) (x .0) → k < 32
-seat-index t o p z v ev x ex k ek =
+pub seat-index : (t : List ℕ) (o : Opening) (p : ℕ) → Seats o p → (v : Position) → v .0 ≡ valueOf o p → (k : ℕ) → k ≡ slotOf (o .species) (valueOf o 0) (v .0) → k < 32
+seat-index t o p z v ev k kv =
     let l = z .small in
-    let e : k ≡ slotOf (o .species) (valueOf o 0) (valueOf o p) = ek ∙ ap (λ (j : ℕ). slotOf (o .species) (valueOf o 0) j) (ap positionNumber ex ∙ ev) in
+    let e : k ≡ slotOf (o .species) (valueOf o 0) (valueOf o p) = kv ∙ ap (λ (j : ℕ). slotOf (o .species) (valueOf o 0) j) ev in
     omega arith
 
 pub known-spans : (t : List ℕ) (o : Opening) → Known t o → Spans o

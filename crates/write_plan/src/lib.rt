@@ -3,10 +3,10 @@ ghost use mathlib.Core.Path.{_≡_};
 ghost use Prim.Native.Nat.{_≤_};
 ghost use Rattle.placing.specs.Sizes.{mostHeld};
 ghost use Rattle.opening_laws.specs.Shared.{listsNumber, sharesNumber};
-ghost use Rattle.call_next_prev.specs.Known.{Known};
+ghost use Rattle.gate_laws.specs.Known.{Known};
 ghost use Rattle.write_plan.specs.Plans.{Seats, writeVerdict, seatVerdict, appendVerdict, Planned};
 use answers::Refusal;
-use placing::Position;
+use placing::MOST_HELD;
 use placing::Segment;
 use tables::Opening;
 
@@ -62,7 +62,7 @@ fn seat(tables: &[u32], opening: Opening, pointer: u32) -> Plan
     requires { ⌜ Known (now tables) opening × Seats opening pointer ⌝ }
     ensures { λ r. ⌜ Planned (now (tables .entry)) opening pointer (seatVerdict (now (tables .entry)) opening pointer) r ⌝ }
 {
-    let position = Position::of(opening.value(pointer));
+    let position = opening.value(pointer);
     let place = opening_steps::place_of(opening, position);
     let at = place as usize;
     let segments = tables[0];
@@ -90,11 +90,11 @@ fn append(tables: &[u32], opening: Opening) -> Plan
     ensures { λ r. ⌜ Planned (now (tables .entry)) opening 1 (appendVerdict (now (tables .entry)) opening) r ⌝ }
 {
     let end = opening.value(1);
-    if 16777215 <= end {
+    if end.is_last() {
         return Plan::No(Refusal::Positions);
     }
-    let longer = opening.step(1, Position::of(end + 1));
-    if 32 < opening_steps::holds(longer) {
+    let longer = opening.step(1, end.after());
+    if MOST_HELD < opening_steps::holds(longer) {
         return Plan::No(Refusal::Segments);
     }
     seat(tables, opening, 1)
@@ -106,21 +106,21 @@ pub fn decide(tables: &[u32], opening: Opening, pointer: u32) -> Plan
     ensures { λ r. ⌜ Planned (now (tables .entry)) opening pointer (writeVerdict (now (tables .entry)) opening pointer) r ⌝ }
 {
     let value = opening.value(pointer);
-    if value == 0 {
+    if value.is_none() {
         return Plan::No(Refusal::Pointer);
     }
     if opening.permit != 1 {
         return Plan::No(Refusal::Permit);
     }
     let begin = opening.value(0);
-    if value < begin {
+    if value.is_before(begin) {
         return Plan::No(Refusal::Below);
     }
     if pointer == 1 {
         return append(tables, opening);
     }
     let end = opening.value(1);
-    if end <= value {
+    if end.is_at_most(value) {
         return Plan::No(Refusal::Beyond);
     }
     if pointer == 0 {

@@ -1,4 +1,4 @@
--- `inquiries::claim` meets its contract. Assumes nothing.
+-- `call_ask::claim` meets its contract. Assumes nothing.
 use borrow.Author.Needs.{needs}
 use Rattle.call_ask.proofs.Laws.{within, inquiring}
 use Rattle.call_ask.proofs.claim.Statement.{statement}
@@ -16,14 +16,14 @@ enum-known-reached-2 c = search needs
 field-requires : tie.Need-field-requires
 field-requires c κs = search within
 
-field-requires-2 : tie.Need-field-requires-2
-field-requires-2 c κs = search within
+value-at-requires : tie.Need-value-at-requires
+value-at-requires c κs = search within
 
-field-requires-3 : tie.Need-field-requires-3
-field-requires-3 c κs = search within
+value-at-requires-2 : tie.Need-value-at-requires-2
+value-at-requires-2 c κs = search within
 
-claimed-requires : tie.Need-claimed-requires
-claimed-requires c κs = search inquiring
+claim-requires : tie.Need-claim-requires
+claim-requires c κs = search inquiring
 
 returns : tie.Need-returns
 returns c = search inquiring
@@ -39,8 +39,8 @@ claim-spec =
     enum-known-reached
     enum-known-reached-2
     field-requires
-    field-requires-2
-    field-requires-3
-    claimed-requires
+    value-at-requires
+    value-at-requires-2
+    claim-requires
     returns
     returns-2)

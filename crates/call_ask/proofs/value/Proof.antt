@@ -1,6 +1,6 @@
--- `inquiries::value` meets its contract. Assumes nothing.
+-- `call_ask::value` meets its contract. Assumes nothing.
 use borrow.Author.Needs.{needs}
-use Rattle.call_ask.proofs.Laws.{inquiring, within}
+use Rattle.call_ask.proofs.Laws.{within, inquiring}
 use Rattle.call_ask.proofs.value.Statement.{statement}
 use Rattle.call_ask.proofs.value.Tie as tie
 
@@ -16,14 +16,17 @@ enum-known-reached-2 c = search needs
 returns : tie.Need-returns
 returns c = search inquiring
 
-add-number : tie.Need-add-number
-add-number c = search needs
+value-at-requires : tie.Need-value-at-requires
+value-at-requires c κs = search within
 
-field-requires : tie.Need-field-requires
-field-requires c κs = search within
+is-none-requires : tie.Need-is-none-requires
+is-none-requires c κs = search needs
 
 returns-2 : tie.Need-returns-2
 returns-2 c = search inquiring
+
+number-requires : tie.Need-number-requires
+number-requires c κs = search needs
 
 returns-3 : tie.Need-returns-3
 returns-3 c = search inquiring
@@ -39,8 +42,9 @@ value-spec =
     enum-known-reached
     enum-known-reached-2
     returns
-    add-number
-    field-requires
+    value-at-requires
+    is-none-requires
     returns-2
+    number-requires
     returns-3
     returns-4)

@@ -1,24 +1,16 @@
 use borrow.Author.Needs.{needs}
-use native.Mathlib.Omega.{arith}
-use Rattle.opening_steps.proofs.Steps.{number-is}
-use Rattle.call_write.specs.Settled.{settled}
+use Rattle.call_write.proofs.Carries.{settle-done}
 use Rattle.call_write.proofs.settle.Statement.{statement}
 use Rattle.call_write.proofs.settle.Tie as tie
 
 value-requires : tie.Need-value-requires
 value-requires c κs = search needs
 
-of-requires : tie.Need-of-requires
-of-requires c κs = search needs
-
 put-element-requires : tie.Need-put-element-requires
-put-element-requires c κs = (search needs, (omega (arith, number-is), search needs))
+put-element-requires c κs = search needs
 
-add-of : tie.Need-add-of
-add-of c = search needs
-
-of-requires-2 : tie.Need-of-requires-2
-of-requires-2 c κs = search needs
+after-requires : tie.Need-after-requires
+after-requires c κs = search needs
 
 step-requires : tie.Need-step-requires
 step-requires c κs = search needs
@@ -33,18 +25,15 @@ same-length-2 : tie.Need-same-length-2
 same-length-2 c = search needs
 
 returns : tie.Need-returns
-unfolding settled
-returns c = cc
+returns c = search (settle-done)
 
 pub settle-spec : {M : Type 1} → statement M
 settle-spec =
     tie.close
     (tie.spec
     value-requires
-    of-requires
     put-element-requires
-    add-of
-    of-requires-2
+    after-requires
     step-requires
     put-opening-requires
     same-length

@@ -12,14 +12,8 @@ enum-known-reached c = search needs
 enum-known-reached-2 : tie.Need-enum-known-reached-2
 enum-known-reached-2 c = search needs
 
-load-opening-requires : tie.Need-load-opening-requires
-load-opening-requires c κs = search calls
-
-decide-requires : tie.Need-decide-requires
-decide-requires c κs = search calls
-
-carry-requires : tie.Need-carry-requires
-carry-requires c κs = (search calls, search calls, search calls, search calls, search needs)
+write-at-requires : tie.Need-write-at-requires
+write-at-requires c κs = search calls
 
 same-length : tie.Need-same-length
 same-length c = search needs
@@ -43,9 +37,7 @@ write-spec =
     reach-requires
     enum-known-reached
     enum-known-reached-2
-    load-opening-requires
-    decide-requires
-    carry-requires
+    write-at-requires
     same-length
     returns
     same-length-2

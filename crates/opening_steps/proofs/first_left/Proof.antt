@@ -6,11 +6,8 @@ use Rattle.opening_steps.proofs.first_left.Tie as tie
 value-requires : tie.Need-value-requires
 value-requires c κs = search needs
 
-add-of : tie.Need-add-of
-add-of c = search needs
-
-of-requires : tie.Need-of-requires
-of-requires c κs = search needs
+after-requires : tie.Need-after-requires
+after-requires c κs = search needs
 
 step-requires : tie.Need-step-requires
 step-requires c κs = search needs
@@ -35,8 +32,7 @@ first-left-spec =
     tie.close
     (tie.spec
     value-requires
-    add-of
-    of-requires
+    after-requires
     step-requires
     holds-requires
     holds-requires-2

@@ -6,11 +6,8 @@ use Rattle.opening_steps.proofs.last_left.Tie as tie
 value-requires : tie.Need-value-requires
 value-requires c κs = search needs
 
-sub-of : tie.Need-sub-of
-sub-of c = search needs
-
-of-requires : tie.Need-of-requires
-of-requires c κs = search needs
+before-requires : tie.Need-before-requires
+before-requires c κs = search needs
 
 step-requires : tie.Need-step-requires
 step-requires c κs = search needs
@@ -27,8 +24,8 @@ sub-with-segment c = search needs
 cast-with-segment : tie.Need-cast-with-segment
 cast-with-segment c = search needs
 
-of-requires-2 : tie.Need-of-requires-2
-of-requires-2 c κs = search needs
+of-requires : tie.Need-of-requires
+of-requires c κs = search needs
 
 with-segment-requires : tie.Need-with-segment-requires
 with-segment-requires c κs = search needs
@@ -44,14 +41,13 @@ last-left-spec =
     tie.close
     (tie.spec
     value-requires
-    sub-of
-    of-requires
+    before-requires
     step-requires
     holds-requires
     holds-requires-2
     sub-with-segment
     cast-with-segment
-    of-requires-2
+    of-requires
     with-segment-requires
     returns
     returns-2)

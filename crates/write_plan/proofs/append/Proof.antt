@@ -6,14 +6,14 @@ use Rattle.write_plan.proofs.append.Tie as tie
 value-requires : tie.Need-value-requires
 value-requires c κs = search needs
 
+is-last-requires : tie.Need-is-last-requires
+is-last-requires c κs = search needs
+
 returns : tie.Need-returns
 returns c = search appends
 
-add-of : tie.Need-add-of
-add-of c = search needs
-
-of-requires : tie.Need-of-requires
-of-requires c κs = search needs
+after-requires : tie.Need-after-requires
+after-requires c κs = search needs
 
 step-requires : tie.Need-step-requires
 step-requires c κs = search needs
@@ -25,7 +25,7 @@ returns-2 : tie.Need-returns-2
 returns-2 c = search appends
 
 seat-requires : tie.Need-seat-requires
-seat-requires c κs = (search needs, search appends)
+seat-requires c κs = search appends
 
 returns-3 : tie.Need-returns-3
 returns-3 c = search appends
@@ -35,9 +35,9 @@ append-spec =
     tie.close
     (tie.spec
     value-requires
+    is-last-requires
     returns
-    add-of
-    of-requires
+    after-requires
     step-requires
     holds-requires
     returns-2

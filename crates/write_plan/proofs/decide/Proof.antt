@@ -1,11 +1,13 @@
 use borrow.Author.Needs.{needs}
 use Rattle.write_plan.proofs.Decides.{decides, inner-seats}
-use native.Mathlib.Omega.{arith}
 use Rattle.write_plan.proofs.decide.Statement.{statement}
 use Rattle.write_plan.proofs.decide.Tie as tie
 
 value-requires : tie.Need-value-requires
 value-requires c κs = search needs
+
+is-none-requires : tie.Need-is-none-requires
+is-none-requires c κs = search needs
 
 returns : tie.Need-returns
 returns c = search decides
@@ -15,6 +17,9 @@ returns-2 c = search decides
 
 value-requires-2 : tie.Need-value-requires-2
 value-requires-2 c κs = search needs
+
+is-before-requires : tie.Need-is-before-requires
+is-before-requires c κs = search needs
 
 returns-3 : tie.Need-returns-3
 returns-3 c = search decides
@@ -28,6 +33,9 @@ returns-4 c = search decides
 value-requires-3 : tie.Need-value-requires-3
 value-requires-3 c κs = search needs
 
+is-at-most-requires : tie.Need-is-at-most-requires
+is-at-most-requires c κs = search needs
+
 returns-5 : tie.Need-returns-5
 returns-5 c = search decides
 
@@ -36,8 +44,16 @@ returns-6 c = search decides
 
 seat-requires : tie.Need-seat-requires
 seat-requires c κs =
-    let w = c .before .before .before .before .before .before .before .before .before .before .before .pre in
-    (w, inner-seats _ _ _ w (omega arith) (omega arith))
+    let below = c .before in
+    let end = below .before .before in
+    let above = end .before .before in
+    let begin = above .before .before in
+    let found = begin .before .before .before .before .before in
+    let known = found .before .before .pre in (
+      known,
+      inner-seats _ _ _ _ _ _ _ _ known (found .value .ensures) (begin .value2 .ensures) (above .before .is-before .ensures) (above .if3 .left)
+          (end .value3 .ensures) (below .before .is-at-most .ensures) (below .if5 .left),
+    )
 
 returns-7 : tie.Need-returns-7
 returns-7 c = search decides
@@ -47,13 +63,16 @@ decide-spec =
     tie.close
     (tie.spec
     value-requires
+    is-none-requires
     returns
     returns-2
     value-requires-2
+    is-before-requires
     returns-3
     append-requires
     returns-4
     value-requires-3
+    is-at-most-requires
     returns-5
     returns-6
     seat-requires

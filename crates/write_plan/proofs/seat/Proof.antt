@@ -1,6 +1,4 @@
 use borrow.Author.Needs.{needs}
-use native.Mathlib.Omega.{arith}
-use Rattle.opening_steps.proofs.Steps.{number-is}
 use Rattle.write_plan.proofs.Seats.{seats}
 use Rattle.write_plan.proofs.seat.Statement.{statement}
 use Rattle.write_plan.proofs.seat.Tie as tie
@@ -8,11 +6,8 @@ use Rattle.write_plan.proofs.seat.Tie as tie
 value-requires : tie.Need-value-requires
 value-requires c κs = search needs
 
-of-requires : tie.Need-of-requires
-of-requires c κs = search needs
-
 place-of-requires : tie.Need-place-of-requires
-place-of-requires c κs = (search seats, omega (arith, number-is))
+place-of-requires c κs = search needs
 
 cast-at : tie.Need-cast-at
 cast-at c = search needs
@@ -64,7 +59,6 @@ seat-spec =
     tie.close
     (tie.spec
     value-requires
-    of-requires
     place-of-requires
     cast-at
     shared-slice-read-segments

@@ -1,6 +1,6 @@
 -- `tables::Opening::free_pointer` meets its contract: no name before `pointer` is free. Assumes nothing.
 use Prim.Native.Nat.{_-_, _≤_}
-use mathlib.Core.Path.{_≡_, refl, sym, _∙_}
+use mathlib.Core.Path.{_≡_, refl}
 use native.Mathlib.Omega.{arith}
 use borrow.Author.Needs.{needs}
 use lib.ListN.{length}
@@ -23,12 +23,16 @@ loop-holds c = (omega arith, omega arith, refl)
 value-requires : tie.Need-value-requires Inv-loop μ-loop
 value-requires c κs = search needs
 
+is-none-requires : tie.Need-is-none-requires Inv-loop μ-loop
+is-none-requires c κs = search needs
+
 returns : tie.Need-returns Inv-loop μ-loop
 returns c =
-    let m = c .before .before .before in
+    let found = c .before .before in
+    let m = found .before .before in
     let o = m .before .args .self in
     let eight : length (o .pointers) ≡ 8 = search (needs, unmapped) in
-    free-here o (m .loop .pointer) eight (m .loop .inv .2) (omega arith) (sym (c .before .value .ensures) ∙ c .if1 .taken)
+    free-here o (m .loop .pointer) eight (m .loop .inv .2) (omega arith) _ (found .value .ensures) _ (c .before .is-none .ensures) (c .if1 .taken)
 
 add-pointer : tie.Need-add-pointer Inv-loop μ-loop
 add-pointer c = search needs
@@ -38,10 +42,11 @@ loop-less c = search needs
 
 loop-again : tie.Need-loop-again Inv-loop μ-loop
 loop-again c =
-    let m = c .before .before .before in
+    let found = c .before .before in
+    let m = found .before .before in
     let o = m .before .args .self in
     let eight : length (o .pointers) ≡ 8 = search (needs, unmapped) in
-    (omega arith, omega arith, free-next o (m .loop .pointer) eight (m .loop .inv .2) (omega arith) (λ e. c .if1 .left (c .before .value .ensures ∙ e)))
+    (omega arith, omega arith, free-next o (m .loop .pointer) eight (m .loop .inv .2) (omega arith) _ (found .value .ensures) _ (c .before .is-none .ensures) (c .if1 .left))
 
 returns-2 : tie.Need-returns-2 Inv-loop μ-loop
 returns-2 c =
@@ -58,6 +63,7 @@ free-pointer-spec =
     μ-loop
     loop-holds
     value-requires
+    is-none-requires
     returns
     add-pointer
     loop-less

@@ -1,5 +1,5 @@
 -- `tables::Opening::value` meets its contract. Assumes nothing.
-use mathlib.Core.Path.{_≡_, sym}
+use mathlib.Core.Path.{_≡_, refl, sym, _∙_}
 use lib.ListN.{length}
 use Rattle.tables.specs.laws.Lengths.{unmapped}
 use Rattle.tables.specs.Fields.{valueOf}
@@ -8,25 +8,25 @@ use borrow.Author.Needs.{needs}
 use Rattle.tables.proofs.Opening.value.Statement.{statement}
 use Rattle.tables.proofs.Opening.value.Tie as tie
 
+none-requires : tie.Need-none-requires
+none-requires c κs = search needs
+
 returns : tie.Need-returns
 returns c =
-    let o = c .before .args .t1 in
-    let eight : length (o .pointers) ≡ 8 = search (needs, unmapped) in
-    sym (value-none o (c .before .args .pointer) eight (c .if1 .taken))
+    let a = c .before .before .args in
+    let eight : length (a .t1 .pointers) ≡ 8 = search (needs, unmapped) in
+    c .none .ensures ∙ sym (value-none (a .t1) (a .pointer) eight (c .before .if1 .taken))
 
-mul-found : tie.Need-mul-found
-mul-found c = search needs
+mul-result : tie.Need-mul-result
+mul-result c = search needs
 
-element-copy-out-found : tie.Need-element-copy-out-found
-element-copy-out-found c = search needs
-
-number-requires : tie.Need-number-requires
-number-requires c κs = search needs
+element-copy-out-result : tie.Need-element-copy-out-result
+element-copy-out-result c = search needs
 
 returns-2 : tie.Need-returns-2
 unfolding valueOf
-returns-2 c = c .number .ensures
+returns-2 c = refl
 
 pub value-spec : {M : Type 1} → statement M
 value-spec =
-    tie.close (tie.spec returns mul-found element-copy-out-found number-requires returns-2)
+    tie.close (tie.spec none-requires returns mul-result element-copy-out-result returns-2)

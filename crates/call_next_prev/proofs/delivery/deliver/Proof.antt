@@ -1,7 +1,7 @@
 use borrow.Author.Needs.{needs}
 use Rattle.call_next_prev.specs.Reads.{delivered}
-use Rattle.call_next_prev.proofs.deliver.Statement.{statement}
-use Rattle.call_next_prev.proofs.deliver.Tie as tie
+use Rattle.call_next_prev.proofs.delivery.deliver.Statement.{statement}
+use Rattle.call_next_prev.proofs.delivery.deliver.Tie as tie
 
 take-element-requires : tie.Need-take-element-requires
 take-element-requires c κs = search needs

@@ -1,7 +1,7 @@
 use borrow.Author.Needs.{needs}
 use Rattle.call_next_prev.proofs.Steps.{places}
-use Rattle.call_next_prev.proofs.segment_for.Statement.{statement}
-use Rattle.call_next_prev.proofs.segment_for.Tie as tie
+use Rattle.call_next_prev.proofs.readings.segment_for.Statement.{statement}
+use Rattle.call_next_prev.proofs.readings.segment_for.Tie as tie
 
 place-of-requires : tie.Need-place-of-requires
 place-of-requires c κs = search needs

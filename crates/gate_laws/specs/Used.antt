@@ -3,21 +3,15 @@ use Prim.Native.Nat.{ℕ}
 use mathlib.Core.Path.{_≡_, sym, ap, _∙_}
 use mathlib.Core.Option.{some}
 use mathlib.Core.List.{List}
-use lib.ListN.{length}
 use Rattle.combine.specs.Verdict.{Verdict, refused, done, onDone}
 use Rattle.combine.specs.Outcome.{Outcome, outcomeOf, settle}
-use Rattle.rules.specs.Calls.{Act, uses}
 use Rattle.rules.specs.Headings.{Handle, opening}
 use Rattle.rules.specs.Effects.{Deed, Delivered, Use, does, used}
 use Rattle.segments.specs.Deeds.{segmentsAfter, storeAfter, deliveredBySegments}
 use Rattle.tables.specs.declared.Opening.{Opening}
-use Rattle.tables.specs.Layout.{openingAt, putOpening}
+use Rattle.tables.specs.Layout.{putOpening}
 use Rattle.cells.specs.Says.{openingIn, houseOf, asOpening, written}
-use Rattle.cells.specs.Outcomes.{Lent, lent, performed, requestOut}
-use Rattle.cells.specs.laws.Entered.{request-open}
-use Rattle.cells.specs.laws.Uses.{verdictOn}
-use Rattle.gate.specs.Passed.{Reached}
-use Rattle.call_next_prev.specs.Known.{reached-open}
+use Rattle.cells.specs.Outcomes.{Lent, lent, performed}
 
 -- a refusal leaves all as it stood; else the use is performed
 unfoldable pub usedOut : List ℕ → List ℕ → ℕ → Opening → Verdict Use → Outcome Lent
@@ -36,12 +30,3 @@ module _ (s t : List ℕ) (i : ℕ) (o : Opening) where
   used-done v a h d n e b =
       ap (usedOut s t i o) e
       ∙ ap (λ (y : Opening). outcomeOf (done (deliveredBySegments s (openingIn o) a)) (lent (storeAfter s (houseOf t) (openingIn o) d) (putOpening t i y))) b
-
--- ---- behind the gate
-
-pub request-used : (s t : List ℕ) (u e i : ℕ) → Reached (length s) t u e i → (a : Act) → requestOut (uses a) s t u e ≡ usedOut s t i (openingAt t i) (verdictOn a t (openingAt t i))
-unfolding usedOut
-request-used s t u e i g a =
-    let p = g .passed in
-    request-open s t u e (p .sound) (p .user) (p .entry) (uses a) (reached-open s t u e i g)
-    ∙ ap (λ (k : ℕ). usedOut s t k (openingAt t k) (verdictOn a t (openingAt t k))) (sym (p .which))

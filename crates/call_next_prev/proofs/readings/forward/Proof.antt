@@ -1,0 +1,74 @@
+use borrow.Author.Needs.{needs}
+use Rattle.opening_steps.specs.Bounds.{from-begin, below-end}
+use Rattle.call_next_prev.proofs.Chains.{chains, next-there}
+use Rattle.call_next_prev.proofs.readings.forward.Statement.{statement}
+use Rattle.call_next_prev.proofs.readings.forward.Tie as tie
+
+value-requires : tie.Need-value-requires
+value-requires c κs = search needs
+
+is-none-requires : tie.Need-is-none-requires
+is-none-requires c κs = search needs
+
+returns : tie.Need-returns
+returns c = search chains
+
+lacks-permit-requires : tie.Need-lacks-permit-requires
+lacks-permit-requires c κs = search needs
+
+returns-2 : tie.Need-returns-2
+returns-2 c = search chains
+
+value-requires-2 : tie.Need-value-requires-2
+value-requires-2 c κs = search needs
+
+is-before-requires : tie.Need-is-before-requires
+is-before-requires c κs = search needs
+
+returns-3 : tie.Need-returns-3
+returns-3 c = search chains
+
+value-requires-3 : tie.Need-value-requires-3
+value-requires-3 c κs = search needs
+
+is-at-most-requires : tie.Need-is-at-most-requires
+is-at-most-requires c κs = search needs
+
+returns-4 : tie.Need-returns-4
+returns-4 c = search chains
+
+segment-for-requires : tie.Need-segment-for-requires
+segment-for-requires c κs =
+    let end = c .before .before in
+    let above = end .before in (
+      search needs,
+      from-begin _ _ _ (above .before .before .value2 .ensures) _ (above .before .is-before .ensures) (above .if3 .left),
+      below-end _ _ _ (end .value3 .ensures) _ (c .before .is-at-most .ensures) (c .if4 .left),
+    )
+
+returns-5 : tie.Need-returns-5
+returns-5 c =
+    let inside = c .before in
+    let end = inside .before .before in
+    let above = end .before in
+    let low = from-begin _ _ _ (above .before .before .value2 .ensures) _ (above .before .is-before .ensures) (above .if3 .left) in
+    let high = below-end _ _ _ (end .value3 .ensures) _ (inside .before .is-at-most .ensures) (inside .if4 .left) in
+    search (next-there, low, high)
+
+pub forward-spec : {M : Type 1} → statement M
+forward-spec =
+    tie.close
+    (tie.spec
+    value-requires
+    is-none-requires
+    returns
+    lacks-permit-requires
+    returns-2
+    value-requires-2
+    is-before-requires
+    returns-3
+    value-requires-3
+    is-at-most-requires
+    returns-4
+    segment-for-requires
+    returns-5)
