@@ -13,21 +13,19 @@ use Rattle.combine.specs.Outcome.{outcomeOf, settle}
 use Rattle.answers.specs.declared.Refusal.{Refusal}
 use Rattle.answers.specs.declared.Answer.the-variants.{Done, Refused}
 use Rattle.answers.specs.Said.{refusalNumber}
-use Rattle.placing.specs.Sizes.{entries, tablesLength, entryOf}
+use Rattle.placing.specs.Sizes.{entryOf}
 use Rattle.placing.specs.Placing.{claimOf}
 use Rattle.rules.specs.Calls.{Act, uses, askSpecies, askClaim, askPermit, askSymbol, askBegin, askEnd, askValue}
 use Rattle.rules.specs.Headings.{value}
 use Rattle.rules.specs.Effects.{Use}
 use Rattle.rules.specs.Access.{asked, valueRule}
 use Rattle.tables.specs.Layout.{openingAt, putOpening}
-use Rattle.tables.specs.Fields.{isOpen}
 use Rattle.tables.specs.Handles.{handleIn, carried}
 use Rattle.tables.specs.laws.Rows.{put-opening-again}
-use Rattle.tables.specs.laws.Sound.{ranged-of}
-use Rattle.tables.specs.laws.OpeningFacts.{SoundOpening, opening-facts}
 use Rattle.cells.specs.Outcomes.{lent, outcome, requestOut}
 use Rattle.cells.specs.laws.Uses.{leavesContent, verdictOn, use-out, asked-out}
 use Rattle.gate.specs.Passed.{Reached}
+use Rattle.gate_laws.specs.Behind.{passed-long, passed-few, reached-open, reached-sound}
 use Rattle.call_ask.specs.Told.{fieldAt}
 use Rattle.call_ask.proofs.Fields.{permit-cell, species-cell, value-cell, symbol-beyond, symbol-cell}
 
@@ -39,20 +37,7 @@ one-or-zero (suc (suc n)) h = absurd (omega arith)
 
 -- ---- behind the gate, at entry i
 
-module _ (cells : ℕ) (t : List ℕ) (u e i : ℕ) (here : Reached cells t u e i) where
-  pub long : length t ≡ tablesLength
-  long = ranged-of cells t (here .passed .sound) .0
-
-  pub in-range : i < entries
-  in-range = let p = here .passed in omega (arith, p .which, p .user, p .entry)
-
-  pub facts : SoundOpening t i (openingAt t i)
-  facts = opening-facts t (ranged-of cells t (here .passed .sound) .2) i in-range (here .there)
-
 module _ (s t : List ℕ) (u e i : ℕ) (here : Reached (length s) t u e i) where
-  open-there : isOpen (openingAt t (entryOf u e)) ≡ true
-  open-there = ap (λ (k : ℕ). isOpen (openingAt t k)) (sym (here .passed .which)) ∙ here .there
-
   -- the inquiry's verdict on the opening is that it is answered by n
   abbrev pub asks : Act → ℕ → Type 0
   asks act n = verdictOn act t (openingAt t i) ≡ asked n (handleIn (openingAt t i))
@@ -61,7 +46,7 @@ module _ (s t : List ℕ) (u e i : ℕ) (here : Reached (length s) t u e i) wher
   answered act n q v =
       let p = here .passed in
       sym
-      (asked-out s t u e (p .sound) (p .user) (p .entry) open-there act n q
+      (asked-out s t u e (p .sound) (p .user) (p .entry) (reached-open here) act n q
       (subst (λ (k : ℕ). verdictOn act t (openingAt t k) ≡ asked n (handleIn (openingAt t k))) (p .which) v))
 
   pub answered-not : (act : Act) (why : Refusal) → leavesContent act ≡ true → verdictOn act t (openingAt t i) ≡ refused (refusalNumber why)
@@ -73,9 +58,9 @@ module _ (s t : List ℕ) (u e i : ℕ) (here : Reached (length s) t u e i) wher
       let o = openingAt t k in
       let w : verdictOn act t o ≡ refused (refusalNumber why) = subst (λ (j : ℕ). verdictOn act t (openingAt t j) ≡ refused (refusalNumber why)) (p .which) v in
       sym
-      (use-out s t u e (p .sound) (p .user) (p .entry) open-there act q
+      (use-out s t u e (p .sound) (p .user) (p .entry) (reached-open here) act q
       ∙ ap (λ (y : Verdict Use). let x = settle o (onDone (carried o) y) in outcomeOf (x .answer) (lent s (putOpening t k (x .after)))) w
-      ∙ ap (λ (y : List ℕ). outcomeOf (refused (refusalNumber why)) (lent s y)) (put-opening-again t (long (length s) t u e i here) k (omega (arith, p .user, p .entry))))
+      ∙ ap (λ (y : List ℕ). outcomeOf (refused (refusalNumber why)) (lent s y)) (put-opening-again t (passed-long (here .passed)) k (omega (arith, p .user, p .entry))))
 
   -- ---- what each inquiry asks
 
@@ -86,7 +71,7 @@ module _ (s t : List ℕ) (u e i : ℕ) (here : Reached (length s) t u e i) wher
   asks-species = asks-number (species-cell t i)
 
   pub asks-permit : asks askPermit (fieldAt t i 2)
-  asks-permit = asks-number (one-or-zero _ (facts (length s) t u e i here .permit) ∙ permit-cell t i)
+  asks-permit = asks-number (one-or-zero _ (reached-sound here .permit) ∙ permit-cell t i)
 
   pub asks-begin : asks askBegin (fieldAt t i 4)
   asks-begin = asks-number (value-cell t i 0 (omega arith))
@@ -98,10 +83,10 @@ module _ (s t : List ℕ) (u e i : ℕ) (here : Reached (length s) t u e i) wher
   asks-claim = asks-number (λ j. claimOf (species-cell t i j) (value-cell t i 0 (omega arith) j) (value-cell t i 1 (omega arith) j))
 
   pub asks-no-symbol : (k : ℕ) → 11 < k → asks (askSymbol k) 63
-  asks-no-symbol k h = asks-number (symbol-beyond t i (long (length s) t u e i here) (in-range (length s) t u e i here) k h)
+  asks-no-symbol k h = asks-number (symbol-beyond t i (passed-long (here .passed)) (passed-few (here .passed)) k h)
 
   pub asks-symbol : (k : ℕ) → k < 12 → asks (askSymbol k) (fieldAt t i (12 + k))
-  asks-symbol k h = asks-number (symbol-cell t i (long (length s) t u e i here) (in-range (length s) t u e i here) k h)
+  asks-symbol k h = asks-number (symbol-cell t i (passed-long (here .passed)) (passed-few (here .passed)) k h)
 
   pub asks-no-value : (p : ℕ) → value (handleIn (openingAt t i)) p ≡ 0 → verdictOn (askValue p) t (openingAt t i) ≡ refused 4
   unfolding valueRule

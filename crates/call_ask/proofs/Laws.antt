@@ -25,9 +25,10 @@ use Rattle.gate.specs.declared.Gate.{Gate}
 use Rattle.gate.specs.declared.Gate.the-variants.{No, At}
 use Rattle.gate.specs.Gates.{reachOf}
 use Rattle.gate.specs.Passed.{Reached, reach-at, reaches, reaches-not}
+use Rattle.gate_laws.specs.Behind.{passed-long, passed-few, reached-sound}
 use Rattle.call_ask.specs.Told.{fieldAt, told}
 use Rattle.call_ask.proofs.Fields.{species-cell, value-cell, value-beyond}
-use Rattle.call_ask.proofs.Asked.{long, in-range, facts, asks, answered, answered-not, asks-number, asks-species, asks-permit, asks-begin, asks-end, asks-claim, asks-no-symbol, asks-symbol, asks-no-value, asks-value}
+use Rattle.call_ask.proofs.Asked.{asks, answered, answered-not, asks-number, asks-species, asks-permit, asks-begin, asks-end, asks-claim, asks-no-symbol, asks-symbol, asks-no-value, asks-value}
 
 module _ (cells : ℕ) (t : List ℕ) (u e : ℕ) (g : Gate) (eg : g ≡ reachOf cells t u e) where
   pub tell-no : (number : ℕ) (why : Refusal) → g ≡ No why → Refused why ≡ told t number (reachOf cells t u e)
@@ -35,10 +36,10 @@ module _ (cells : ℕ) (t : List ℕ) (u e : ℕ) (g : Gate) (eg : g ≡ reachOf
   tell-no number why at = sym (ap (told t number) (sym eg ∙ at))
 
   pub long-behind : (i : ℕ) → g ≡ At i → length t ≡ tablesLength
-  long-behind i at = long cells t u e i (reach-at cells t u e i (sym eg ∙ at))
+  long-behind i at = passed-long (reach-at cells t u e i (sym eg ∙ at) .passed)
 
   pub entry-behind : (i : ℕ) → g ≡ At i → i < entries
-  entry-behind i at = in-range cells t u e i (reach-at cells t u e i (sym eg ∙ at))
+  entry-behind i at = passed-few (reach-at cells t u e i (sym eg ∙ at) .passed)
 
   pub tell-at : (number i n : ℕ) → g ≡ At i → n ≡ fieldAt t i number → Done n ≡ told t number (reachOf cells t u e)
   unfolding told
@@ -91,7 +92,7 @@ module _ (s t : List ℕ) (u e : ℕ) (g : Gate) (eg : g ≡ reachOf (length s) 
           (species-cell t i ∙ sym ea)
           (sym (value-in o 0) ∙ value-cell t i 0 (omega arith) ∙ sym eb)
           (sym (value-in o 1) ∙ value-cell t i 1 (omega arith) ∙ sym ec)
-          (facts (length s) t u e i here-at .extent)
+          (reached-sound here-at .extent)
 
       pub claim-species : a ≤ greatestSpecies
       claim-species = sound .species
@@ -115,7 +116,7 @@ module _ (s t : List ℕ) (u e : ℕ) (g : Gate) (eg : g ≡ reachOf (length s) 
     pub no-pointer-answered : (p : ℕ) → 7 < p → outcome (Refused Pointer) s t ≡ requestOut (uses (askValue p)) s t u e
     no-pointer-answered p h =
         answered-not s t u e i here-at (askValue p) Pointer refl
-        (asks-no-value s t u e i here-at p (value-beyond t i (long (length s) t u e i here-at) (in-range (length s) t u e i here-at) p h))
+        (asks-no-value s t u e i here-at p (value-beyond t i (passed-long (here-at .passed)) (passed-few (here-at .passed)) p h))
 
     -- v is the value of pointer p, b the test whether there is none
     module _ (p : ℕ) (v : Position) (lp : p ≤ 7) (q : v .0 ≡ fieldAt t i (4 + p)) (b : Bool) (eb : b ≡ eqb (v .0) 0) where

@@ -1,4 +1,4 @@
--- What the code of `inquiries` does. Assumes nothing.
+-- What the code of `call_ask` does. Assumes nothing.
 pub mod Fields
 pub mod Asked
 pub mod Laws

@@ -3,7 +3,6 @@ use Prim.Native.Nat.{ℕ, _<_}
 use mathlib.Core.Path.{_≡_, refl, sym, ap, _∙_}
 use mathlib.Core.Bool.{true, false}
 use mathlib.Core.List.{List}
-use native.Mathlib.Omega.{arith}
 use lib.ListN.{length}
 use Rattle.combine.specs.Verdict.{Verdict, done, isDone, onDone}
 use Rattle.combine.specs.Outcome.{Outcome, outcomeOf, settle}
@@ -19,17 +18,17 @@ use Rattle.rules.specs.Headings.{value, moved}
 use Rattle.rules.specs.Effects.{stays, plain, Use, does}
 use Rattle.tables.specs.declared.Opening.{Opening}
 use Rattle.tables.specs.Layout.{openingAt, putOpening}
-use Rattle.tables.specs.Fields.{isOpen, valueOf}
+use Rattle.tables.specs.Fields.{valueOf}
 use Rattle.tables.specs.Handles.{handleIn, pointed, carried}
 use Rattle.tables.specs.laws.Pointers.{value-in, moved-in}
 use Rattle.tables.specs.laws.Rows.{put-opening-again}
-use Rattle.tables.specs.laws.Sound.{ranged-of}
 use Rattle.cells.specs.Outcomes.{Lent, lent, outcome, requestOut}
 use Rattle.cells.specs.laws.Uses.{leavesContent, verdictOn, use-out}
 use Rattle.gate.specs.declared.Gate.{Gate}
 use Rattle.gate.specs.declared.Gate.the-variants.{No, At}
 use Rattle.gate.specs.Gates.{reachOf}
 use Rattle.gate.specs.Passed.{Reached, reaches, reaches-not}
+use Rattle.gate_laws.specs.Behind.{passed-long, passed-few, reached-open}
 
 -- ---- an opening is put back where the answer is done
 
@@ -67,10 +66,10 @@ module _ (s t : List ℕ) (u e : ℕ) (g : Gate) (eg : g ≡ reachOf (length s) 
     here = reaches s t u e g eg i at
 
     pub long-behind : length t ≡ tablesLength
-    long-behind = ranged-of (length s) t (here .passed .sound) .0
+    long-behind = passed-long (here .passed)
 
     pub entry-behind : i < entries
-    entry-behind = let p = here .passed in omega (arith, p .which, p .user, p .entry)
+    entry-behind = passed-few (here .passed)
 
     -- the method's outcome, put back by `finish`
     pub put-back : (act : Act) → leavesContent act ≡ true → (o p : Opening) (a r : Answer) (after : List ℕ) → o ≡ openingAt t i
@@ -84,4 +83,4 @@ module _ (s t : List ℕ) (u e : ℕ) (g : Gate) (eg : g ≡ reachOf (length s) 
         ∙ ap (lifted i) em
         ∙ ap (λ (x : Opening). lifted i (method x)) eo
         ∙ ap (λ (k : ℕ). lifted k (method (openingAt t k))) (b .which)
-        ∙ sym (use-out s t u e (b .sound) (b .user) (b .entry) (ap (λ (k : ℕ). isOpen (openingAt t k)) (sym (b .which)) ∙ here .there) act q)
+        ∙ sym (use-out s t u e (b .sound) (b .user) (b .entry) (reached-open here) act q)

@@ -1,2 +1,2 @@
--- What the contracts of `writing` cite. Assumes nothing.
+-- What the contracts of `call_write` cite. Assumes nothing.
 pub mod Settled

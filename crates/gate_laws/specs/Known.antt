@@ -1,6 +1,6 @@
 -- What is known of an open entry of sound tables, whose opening was loaded. Assumes nothing.
 use Prim.Native.Nat.{ℕ, _-_, _%_, _≤_, _<_}
-use mathlib.Core.Path.{_≡_, sym, ap, subst, _∙_}
+use mathlib.Core.Path.{_≡_, sym, subst}
 use mathlib.Core.Logic.{_≢_}
 use mathlib.Core.List.{List}
 use native.Mathlib.Omega.{arith}
@@ -9,7 +9,7 @@ use Rattle.placing.specs.Sizes.{places, userOf}
 use Rattle.placing.specs.Placing.{heldOf}
 use Rattle.tables.specs.declared.Opening.{Opening}
 use Rattle.tables.specs.Layout.{segmentsIn, openingAt}
-use Rattle.tables.specs.Fields.{isOpen, valueOf, numberAt, recordFor}
+use Rattle.tables.specs.Fields.{valueOf, numberAt, recordFor}
 use Rattle.tables.specs.laws.Sound.{Ranged}
 use Rattle.tables.specs.laws.RecordFacts.{SoundRecord, record-facts}
 use Rattle.opening_laws.specs.Back.{OpenFile}

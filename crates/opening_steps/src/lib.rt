@@ -9,9 +9,13 @@ ghost use Rattle.tables.specs.Fields.{valueOf};
 ghost use Rattle.opening_laws.specs.Deeded.{withSegment, shifted, firstLeft, lastLeft};
 ghost use Rattle.opening_laws.specs.Back.{OpenFile};
 ghost use Rattle.opening_steps.specs.Spans.{Spans};
+use placing::LIST_LENGTH;
 use placing::Position;
 use placing::Segment;
 use tables::Opening;
+
+// The last place of a list.
+const LAST_SLOT: usize = LIST_LENGTH - 1;
 
 // "A file holds one segment for each stretch with at least one of its positions, and no other"
 pub fn holds(opening: Opening) -> u32
@@ -33,12 +37,12 @@ pub fn place_of(opening: Opening, position: Position) -> u32
 }
 
 // The list without its first segment: "Unused list places are zero".
-fn from_second(list: [Segment; 32]) -> [Segment; 32]
+fn from_second(list: [Segment; LIST_LENGTH]) -> [Segment; LIST_LENGTH]
     ensures { λ r. ⌜ r ≡ drop 1 list ++ (segment 0 ∷ []) ⌝ }
 {
-    let mut rest = [Segment::of(0); 32];
+    let mut rest = [Segment::of(0); LIST_LENGTH];
     let mut i: usize = 0;
-    while i < 31 {
+    while i < LAST_SLOT {
         let j = i + 1;
         let found = list[j];
         rest[i] = found;

@@ -13,14 +13,20 @@ use crate::Answered;
 use crate::Opening;
 use answers::Answer;
 use answers::Refusal;
+use placing::FIRST_OWN_POINTER;
+use placing::GREATEST_POINTER;
+use placing::NAME_SYMBOLS;
 use placing::Position;
+
+// The number after the greatest pointer's.
+const BEYOND_POINTERS: u32 = GREATEST_POINTER + 1;
 
 impl Opening {
     // The value of a pointer, or what stands for it where there is no such pointer; any number.
     pub fn value(self, pointer: u32) -> Position
         ensures { λ r. ⌜ r .0 ≡ valueOf self pointer ⌝ }
     {
-        if 7 < pointer {
+        if GREATEST_POINTER < pointer {
             return Position::none();
         }
         let at = pointer as usize;
@@ -49,8 +55,8 @@ impl Opening {
     fn free_pointer(self) -> u32
         ensures { λ r. ⌜ r ≡ lowestFreePointer self ⌝ }
     {
-        let mut pointer = 3;
-        while pointer < 8 {
+        let mut pointer = FIRST_OWN_POINTER;
+        while pointer < BEYOND_POINTERS {
             if self.value(pointer).is_none() {
                 return pointer;
             }
@@ -71,7 +77,7 @@ impl Opening {
             };
         }
         let free = self.free_pointer();
-        if 7 < free {
+        if GREATEST_POINTER < free {
             return Answered {
                 answer: Answer::Refused(Refusal::Pointers),
                 opening: self,
@@ -95,7 +101,7 @@ impl Opening {
                 opening: self,
             };
         }
-        if pointer < 3 {
+        if pointer < FIRST_OWN_POINTER {
             return Answered {
                 answer: Answer::Refused(Refusal::Pointer),
                 opening: self,
@@ -110,7 +116,7 @@ impl Opening {
     }
 
     // "Renaming (needs the work permit) changes the opening's name only."
-    pub fn rename(mut self, name: [u32; 12]) -> Answered
+    pub fn rename(mut self, name: [u32; NAME_SYMBOLS]) -> Answered
         ensures { λ r. ⌜ outcomeOf (said (r .answer)) (r .opening) ≡ settle self (onDone (carried self) (renameRule name (handleIn self))) ⌝ }
     {
         if self.permit != 1 {

@@ -1,2 +1,2 @@
--- What the contracts of `plans` cite. Assumes nothing.
+-- What the contracts of `write_plan` cite. Assumes nothing.
 pub mod Plans

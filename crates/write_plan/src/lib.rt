@@ -6,6 +6,7 @@ ghost use Rattle.opening_laws.specs.Shared.{listsNumber, sharesNumber};
 ghost use Rattle.gate_laws.specs.Known.{Known};
 ghost use Rattle.write_plan.specs.Plans.{Seats, writeVerdict, seatVerdict, appendVerdict, Planned};
 use answers::Refusal;
+use placing::LIST_LENGTH;
 use placing::MOST_HELD;
 use placing::Segment;
 use tables::Opening;
@@ -24,7 +25,7 @@ pub enum Plan {
 }
 
 // Whether a segment is among the held ones of a list.
-fn lists(list: [Segment; 32], held: u32, segment: Segment) -> bool
+fn lists(list: [Segment; LIST_LENGTH], held: u32, segment: Segment) -> bool
     requires { ⌜ held ≤ mostHeld ⌝ }
     ensures { λ r. ⌜ r ≡ listsNumber list held (segment .0) ⌝ }
 {

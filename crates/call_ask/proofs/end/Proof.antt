@@ -1,4 +1,4 @@
--- `inquiries::end` meets its contract. Assumes nothing.
+-- `call_ask::end` meets its contract. Assumes nothing.
 use borrow.Author.Needs.{needs}
 use Rattle.call_ask.proofs.Laws.{inquiring}
 use Rattle.call_ask.proofs.end.Statement.{statement}

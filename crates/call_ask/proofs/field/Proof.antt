@@ -1,4 +1,4 @@
--- `inquiries::field` meets its contract. Assumes nothing.
+-- `call_ask::field` meets its contract. Assumes nothing.
 use borrow.Author.Needs.{needs}
 use Rattle.call_ask.specs.Told.{fieldAt}
 use Rattle.call_ask.proofs.field.Statement.{statement}

@@ -1,4 +1,4 @@
--- `inquiries::permit` meets its contract. Assumes nothing.
+-- `call_ask::permit` meets its contract. Assumes nothing.
 use borrow.Author.Needs.{needs}
 use Rattle.call_ask.proofs.Laws.{inquiring}
 use Rattle.call_ask.proofs.permit.Statement.{statement}

@@ -1,4 +1,4 @@
--- `inquiries::symbol` meets its contract. Assumes nothing.
+-- `call_ask::symbol` meets its contract. Assumes nothing.
 use borrow.Author.Needs.{needs}
 use Rattle.call_ask.proofs.Laws.{inquiring, within}
 use Rattle.call_ask.proofs.symbol.Statement.{statement}

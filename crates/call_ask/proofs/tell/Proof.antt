@@ -1,4 +1,4 @@
--- `inquiries::tell` meets its contract. Assumes nothing.
+-- `call_ask::tell` meets its contract. Assumes nothing.
 use borrow.Author.Needs.{needs}
 use Rattle.call_ask.proofs.Laws.{inquiring, within}
 use Rattle.call_ask.proofs.tell.Statement.{statement}

@@ -1,4 +1,4 @@
--- `newPointerRule::delete_pointer` meets its contract. Assumes nothing.
+-- `call_pointers::delete_pointer` meets its contract. Assumes nothing.
 use mathlib.Core.Path.{refl, _∙_}
 use denote.Ref.{now}
 use Rattle.rules.specs.Calls.{deletePointer}

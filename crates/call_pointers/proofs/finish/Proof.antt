@@ -1,4 +1,4 @@
--- `newPointerRule::finish` meets its contract. Assumes nothing.
+-- `call_pointers::finish` meets its contract. Assumes nothing.
 use denote.Ref.{now}
 use Rattle.call_pointers.proofs.Laws.{finish-refused, finish-done}
 use borrow.Author.Needs.{needs}

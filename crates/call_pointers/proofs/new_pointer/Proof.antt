@@ -1,4 +1,4 @@
--- `newPointerRule::new_pointer` meets its contract. Assumes nothing.
+-- `call_pointers::new_pointer` meets its contract. Assumes nothing.
 use mathlib.Core.Path.{refl, _∙_}
 use denote.Ref.{now}
 use Rattle.rules.specs.Calls.{newPointer}

@@ -1,4 +1,4 @@
--- `newPointerRule::reset` meets its contract. Assumes nothing.
+-- `call_pointers::reset` meets its contract. Assumes nothing.
 use mathlib.Core.Path.{refl, ap}
 use denote.Ref.{now}
 use Rattle.combine.specs.Verdict.{done}

@@ -59,10 +59,15 @@ returns-5 c =
     let inside = fallen .before in
     let end = inside .before .before in
     let above = end .before in
-    let over = above-begin _ _ _ (above .before .before .value2 .ensures) _ (above .before .is-at-most .ensures) (above .if3 .left) in
+    let begin = above .before .before in
+    let allowed = begin .before in
+    let there = allowed .before .before in
+    let found = there .before .before in
+    let over = above-begin _ _ _ (begin .value2 .ensures) _ (above .before .is-at-most .ensures) (above .if3 .left) in
     let low = before-low _ _ _ (fallen .before2 .ensures) over in
     let high = before-high _ _ _ (fallen .before2 .ensures) over (to-end _ _ _ (end .value3 .ensures) _ (inside .before .is-before .ensures) (inside .if4 .left)) in
-    search (prev-there, low, high)
+    prev-there _ _ _ (found .value .ensures) _ (there .before .is-none .ensures) (there .if1 .left) _ (allowed .before .lacks-permit .ensures) (allowed .if2 .left)
+    _ (fallen .before2 .ensures) low high (found .before .pre) _ (c .segment-for .ensures)
 
 pub backward-spec : {M : Type 1} → statement M
 backward-spec =

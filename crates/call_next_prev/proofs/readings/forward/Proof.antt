@@ -51,9 +51,14 @@ returns-5 c =
     let inside = c .before in
     let end = inside .before .before in
     let above = end .before in
-    let low = from-begin _ _ _ (above .before .before .value2 .ensures) _ (above .before .is-before .ensures) (above .if3 .left) in
+    let begin = above .before .before in
+    let allowed = begin .before in
+    let there = allowed .before .before in
+    let found = there .before .before in
+    let low = from-begin _ _ _ (begin .value2 .ensures) _ (above .before .is-before .ensures) (above .if3 .left) in
     let high = below-end _ _ _ (end .value3 .ensures) _ (inside .before .is-at-most .ensures) (inside .if4 .left) in
-    search (next-there, low, high)
+    next-there _ _ _ (found .value .ensures) _ (there .before .is-none .ensures) (there .if1 .left) _ (allowed .before .lacks-permit .ensures) (allowed .if2 .left)
+    low high (found .before .pre) _ (c .segment-for .ensures)
 
 pub forward-spec : {M : Type 1} → statement M
 forward-spec =
