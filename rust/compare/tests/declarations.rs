@@ -158,6 +158,21 @@ fn the_refusals_have_one_number_and_one_text() {
     }
 }
 
+/// The numbers that stand behind a mark at a line's end.
+fn numbers_behind(mark: &str, text: &str) -> Vec<u32> {
+    let found = text.lines().filter_map(|line| line.split_once(mark)?.1.trim_end_matches(',').parse().ok());
+    found.collect()
+}
+
+#[test]
+fn the_refusals_have_the_same_numbers_in_rattle_and_in_second() {
+    let wanted: Vec<u32> = Refusal::ALL.iter().map(|refusal| refusal.number()).collect();
+    let rattle = text_of(&repository().join("crates/answers/src/lib.rt"));
+    assert_eq!(numbers_behind(" => ", &rattle), wanted);
+    let second = text_of(&repository().join("second/src/rules/refusal.rs"));
+    assert_eq!(numbers_behind(" = ", &second), wanted);
+}
+
 #[test]
 fn each_call_has_its_line_in_the_readme_of_histories() {
     let histories = text_of(&repository().join("histories/README.md"));
