@@ -1,8 +1,7 @@
 // "Segment numbers, positions and cell numbers are different kinds of number and are never to be mixed": each is a struct with a
 // private field, and one is made of another by the placing rules alone.
 ghost use mathlib.Core.Path.{_≡_};
-ghost use Prim.Native.Nat.{_≤_, _<_, _+_, _-_, _*_};
-ghost use lib.Dec.{leb, ltb, eqb};
+ghost use Prim.Native.Nat.{_≤_, _<_, _*_};
 ghost use Rattle.placing.specs.Sizes.{segmentCells, greatestEnd, greatestSpecies, widthOf, elementsOf, leastElements};
 ghost use Rattle.placing.specs.Placing.{
   segment,
@@ -15,6 +14,8 @@ ghost use Rattle.placing.specs.Placing.{
   claimOf,
   slotOf,
 };
+
+pub mod order; // positions compared, and moved by one
 
 // "Users 0 to 7. Each user has entries 0 to 3", a row of them: 32 in all.
 pub const GREATEST_USER: u32 = 7;
@@ -146,55 +147,6 @@ impl Position {
         ensures { λ r. ⌜ r ≡ self .0 ⌝ }
     {
         self.0
-    }
-
-    // What stands for the value of a pointer that does not exist.
-    pub fn none() -> Position
-        ensures { λ r. ⌜ r .0 ≡ 0 ⌝ }
-    {
-        Position(0)
-    }
-
-    // Whether it is the value of no pointer: "not a pointer of the file" is 4.
-    pub fn is_none(self) -> bool
-        ensures { λ r. ⌜ r ≡ eqb (self .0) 0 ⌝ }
-    {
-        self.0 == 0
-    }
-
-    pub fn is_before(self, other: Position) -> bool
-        ensures { λ r. ⌜ r ≡ ltb (self .0) (other .0) ⌝ }
-    {
-        self.0 < other.0
-    }
-
-    pub fn is_at_most(self, other: Position) -> bool
-        ensures { λ r. ⌜ r ≡ leb (self .0) (other .0) ⌝ }
-    {
-        self.0 <= other.0
-    }
-
-    // Whether no end is beyond it: "An append refused for 10: e is 16,777,215."
-    pub fn is_last(self) -> bool
-        ensures { λ r. ⌜ r ≡ leb greatestEnd (self .0) ⌝ }
-    {
-        GREATEST_END <= self.0
-    }
-
-    // "v grows by 1"
-    pub fn after(self) -> Position
-        requires { ⌜ self .0 ≤ greatestEnd ⌝ }
-        ensures { λ r. ⌜ r .0 ≡ self .0 + 1 ⌝ }
-    {
-        Position(self.0 + 1)
-    }
-
-    // "v falls by 1"
-    pub fn before(self) -> Position
-        requires { ⌜ 1 ≤ self .0 ⌝ }
-        ensures { λ r. ⌜ r .0 ≡ self .0 - 1 ⌝ }
-    {
-        Position(self.0 - 1)
     }
 
     // "Position x lies in the file's stretch floor((x-1)/E)"
