@@ -45,11 +45,4 @@ impl Random {
     pub fn any_of<T: Copy>(&mut self, choices: &[T]) -> Option<T> {
         (!choices.is_empty()).then(|| self.one_of(choices))
     }
-
-    /// In a random order.
-    pub fn shuffle<T>(&mut self, list: &mut [T]) {
-        for place in (1..list.len()).rev() {
-            list.swap(place, self.below(place as u32 + 1) as usize);
-        }
-    }
 }

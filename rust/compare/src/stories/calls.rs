@@ -1,13 +1,12 @@
 //! Single calls, with arguments that mostly make sense.
 
-use crate::pair::Difference;
 use crate::teller::{bytes_of, Teller, Told};
 
 impl Teller {
     pub fn any_call(&mut self) -> Told {
         match self.random.below(16) {
-            0 | 1 => self.open_new().map(|_| ()),
-            2 | 3 => self.open_old().map(|_| ()),
+            0 | 1 => self.open_new(),
+            2 | 3 => self.open_old(),
             4 => self.rename(),
             5 => self.end_something(),
             6 | 7 => self.handle_pointers(),
@@ -17,17 +16,16 @@ impl Teller {
         }
     }
 
-    /// The entry, if it was opened.
-    pub fn open_new(&mut self) -> Result<Option<(u32, u32)>, Difference> {
+    fn open_new(&mut self) -> Told {
         let (user, entry) = self.closed_entry();
         let species = self.random.below(6);
         let species = self.or_wild(species);
-        let done = self.say(format!("new {user} {entry} {species}"))?;
-        Ok(done.then_some((user, entry)))
+        self.say(format!("new {user} {entry} {species}"))?;
+        Ok(())
     }
 
     /// Opens a record that is there, or a name that may not be.
-    pub fn open_old(&mut self) -> Result<Option<(u32, u32)>, Difference> {
+    fn open_old(&mut self) -> Told {
         let call = self.random.one_of(&["work", "work", "read"]);
         let (user, name) = match self.record() {
             Some((_, record)) if !self.random.once_in(6) => {
@@ -42,10 +40,11 @@ impl Teller {
             false => self.closed_entry_of(user),
         };
         let at = (self.or_wild(at.0), self.or_wild(at.1));
-        Ok(self.say_named(call, at, &name)?.then_some(at))
+        self.say_named(call, at, &name)?;
+        Ok(())
     }
 
-    pub fn rename(&mut self) -> Told {
+    fn rename(&mut self) -> Told {
         let at = match self.random.once_in(8) {
             true => self.open_entry(),
             false => self.working_entry(),
@@ -55,18 +54,14 @@ impl Teller {
         Ok(())
     }
 
-    pub fn end_something(&mut self) -> Told {
-        let at = self.open_entry();
-        self.end(at)
-    }
-
-    pub fn end(&mut self, (user, entry): (u32, u32)) -> Told {
+    fn end_something(&mut self) -> Told {
+        let (user, entry) = self.open_entry();
         let call = self.random.one_of(&["close", "close", "public", "public", "abandon"]);
         self.say(format!("{call} {user} {entry}"))?;
         Ok(())
     }
 
-    pub fn handle_pointers(&mut self) -> Told {
+    fn handle_pointers(&mut self) -> Told {
         let (user, entry) = self.open_entry();
         let pointer = self.pointer();
         let line = match self.random.below(8) {
@@ -80,16 +75,12 @@ impl Teller {
         Ok(())
     }
 
-    pub fn access(&mut self) -> Told {
-        let at = match self.random.once_in(4) {
+    fn access(&mut self) -> Told {
+        let (user, entry) = match self.random.once_in(4) {
             true => self.open_entry(),
             false => self.working_entry(),
         };
         let pointer = self.pointer();
-        self.access_through(at, pointer)
-    }
-
-    pub fn access_through(&mut self, (user, entry): (u32, u32), pointer: u32) -> Told {
         let line = match self.random.below(5) {
             0 => format!("next {user} {entry} {pointer}"),
             1 => format!("prev {user} {entry} {pointer}"),
@@ -99,7 +90,7 @@ impl Teller {
         Ok(())
     }
 
-    pub fn inquire(&mut self) -> Told {
+    fn inquire(&mut self) -> Told {
         let (user, entry) = self.open_entry();
         let call = self.random.one_of(&["species", "claim", "permit", "begin", "end", "symbol", "value", "free"]);
         let line = match call {
@@ -115,7 +106,7 @@ impl Teller {
         Ok(())
     }
 
-    pub fn ask_the_operator(&mut self) -> Told {
+    fn ask_the_operator(&mut self) -> Told {
         let image = self.random.below(4);
         let line = match self.random.below(30) {
             0 => "fresh".to_string(),

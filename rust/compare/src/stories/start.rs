@@ -1,26 +1,19 @@
-//! How stories start.
+//! How a wild story starts, and goes on where every call would be refused.
 
 use crate::teller::{Teller, Told};
 
 impl Teller {
-    /// A fresh start over a store of any contents, often with an image of made-up files loaded.
+    /// A fresh start over a store of any contents.
     pub fn start(&mut self) -> Told {
         let segments = match self.random.below(8) {
             0 => self.random.one_of(&[1, 2, 1023, 1024, 1025]),
             1..=5 => self.random.between(1, 12),
             _ => self.random.between(12, 80),
         };
-        self.start_with(segments)
-    }
-
-    pub fn start_with(&mut self, segments: u32) -> Told {
         let length = (64 * segments + self.random.one_of(&[0, 0, 1, 63])).min(65_600);
         self.say(format!("lend store {length}"))?;
         self.fill_the_store(length)?;
         self.say("fresh")?;
-        if self.random.once_in(2) {
-            self.load_made_up_files()?;
-        }
         Ok(())
     }
 

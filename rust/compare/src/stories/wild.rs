@@ -21,7 +21,7 @@ impl Teller {
                 self.mend()?;
             }
             for _ in 0..self.random.below(6) {
-                self.act()?;
+                self.any_call()?;
             }
         }
         Ok(())
