@@ -9,11 +9,13 @@ use Rattle.answers.specs.declared.Answer.{Answer}
 use Rattle.combine.specs.Verdict.{done, onDone}
 use Rattle.answers.specs.Said.{said}
 use Rattle.combine.specs.Outcome.{Outcome, outcomeOf, settle}
+use Rattle.combine.specs.Run.{Ran, runOver, admitted}
 use Rattle.placing.specs.Sizes.{Cells, leastStore, tablesLength, entryOf, freshSegments}
-use Rattle.rules.specs.Calls.{Request, Start, fresh, load, Question, save, count, Call, starts, asks, on}
+use Rattle.rules.specs.Calls.{Request, Start, fresh, load, Question, save, count, Run, Call, starts, asks, on, runs}
 use Rattle.rules.specs.Effects.{Effect}
 use Rattle.rules.specs.Gates.{userGate, entryGate, startGate, imageGate}
 use Rattle.rules.specs.Levels.{perform, ruled, orBlank}
+use Rattle.rules.specs.Runs.{requestsOf, admission, runAnswer, RunTold, runTold, noRun}
 use Rattle.segments.specs.Free.{SegmentOpening, freeCount}
 use Rattle.segments.specs.Deeds.{segmentLevel, performStore}
 use Rattle.tables.specs.Layout.{freshTables}
@@ -49,6 +51,12 @@ unfoldable pub requestOut : Request → (store tables : Cells) (user entry : ℕ
 requestOut r s t u e =
     let x = getD (houseOf t .openings) (entryOf u e) none in
     settle (lent s t) (entryGate (soundLent s t) u e (onDone (performed s t (entryOf u e) (orBlank (segmentLevel s) x)) (ruled (segmentLevel s) r u (houseOf t) x)))
+
+-- ---- a run of elements: the single calls, one after another
+
+unfoldable pub runOut : Run → (store tables : Cells) (user entry : ℕ) → Ran Lent
+runOut r s t u e =
+    admitted (lent s t) (admission (soundLent s t) r u e (houseOf t)) (runOver (λ q x. requestOut q (x .store) (x .tables) u e) (requestsOf r) (lent s t))
 
 -- ---- the count of free segments, and the operator's calls: "none of them changes a store cell"
 
@@ -93,6 +101,7 @@ abbrev pub callOut : Call → (store tables : Cells) → Outcome Lent
 callOut (starts c) s t = startOut c s t
 callOut (asks q) s t = outcomeOf (askOut q s t .answer) (lent s t)
 callOut (on u e r) s t = requestOut r s t u e
+callOut (runs u e r) s t = outcomeOf (runAnswer (runOut r s t u e)) (runOut r s t u e .after)
 
 -- the lent image afterwards, for a call that has one
 abbrev pub callImage : Call → (store tables : Cells) → Cells
@@ -100,3 +109,11 @@ callImage (starts fresh) s t = []
 callImage (starts (load img)) s t = img
 callImage (asks q) s t = askOut q s t .after
 callImage (on u e r) s t = []
+callImage (runs u e r) s t = []
+
+-- what a run tells beside its answer
+abbrev pub callRun : Call → (store tables : Cells) → RunTold
+callRun (starts c) s t = noRun
+callRun (asks q) s t = noRun
+callRun (on u e r) s t = noRun
+callRun (runs u e r) s t = runTold r (runOut r s t u e)

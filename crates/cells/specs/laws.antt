@@ -1,5 +1,6 @@
 -- The laws of this crate's definitions, which other crates cite. Assumes nothing.
 pub mod Written
+pub mod Runs
 pub mod Refusals
 pub mod Determined
 pub mod Entered

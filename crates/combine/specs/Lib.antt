@@ -5,4 +5,5 @@ pub mod First
 pub mod Lists
 pub mod Verdict
 pub mod Outcome
+pub mod Run
 pub mod laws

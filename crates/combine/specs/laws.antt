@@ -9,6 +9,7 @@ pub mod Same
 pub mod Parts
 pub mod Verdict
 pub mod Outcome
+pub mod Run
 pub mod Tests
 pub mod Put
 pub mod Replaced

@@ -6,10 +6,10 @@ use mathlib.Core.Bool.{Bool, true, false, not, _&&_, _||_, cond}
 use mathlib.Core.List.{List, [], _∷_, _++_, map}
 use lib.Dec.{T, eqb}
 use Rattle.combine.specs.Verdict.{Said, done, refused, isDone}
-use Rattle.rules.specs.Calls.{Way, Request, opens, closes, abandons, uses, fresh, load, save, count, Call, starts, asks, on}
+use Rattle.rules.specs.Calls.{Way, Request, opens, closes, abandons, uses, fresh, load, save, count, Call, starts, asks, on, runs}
 use Rattle.segments.specs.Free.{freeCount}
 use Rattle.cells.specs.Says.{houseOf}
-use Rattle.cells.specs.Outcomes.{Lent}
+use Rattle.cells.specs.Outcomes.{Lent, callRun}
 use Rattle.model.specs.Step.{Report}
 use Rattle.demands.specs.History.{outcomeOn, afterCall, viewOn, toldAll, final}
 
@@ -20,6 +20,7 @@ abbrev pub isOn : ℕ → ℕ → Call → Bool
 isOn u e (starts c) = false
 isOn u e (asks q) = false
 isOn u e (on v d r) = eqb u v && eqb e d
+isOn u e (runs v d r) = eqb u v && eqb e d
 
 abbrev pub ending : Request → Bool
 ending (opens w) = false
@@ -32,11 +33,18 @@ abbrev pub ends : ℕ → ℕ → Call → Bool
 ends u e (starts c) = true
 ends u e (asks q) = false
 ends u e (on v d r) = (eqb u v && eqb e d) && ending r
+ends u e (runs v d r) = false
 
 -- answered "no room" or "not now"
 abbrev pub crowded : Said → Bool
 crowded (done n) = false
 crowded (refused n) = eqb n 9 || eqb n 14
+
+-- a call's answer, but of a run that is stopped the refusal that stops it: "a run stopped by 9 counts as answered "no room""
+abbrev pub answeredAs : Call → Lent → Said
+answeredAs c x =
+    let n = callRun c (x .store) (x .tables) .stop in
+    cond (eqb n 0) (outcomeOn c x .answer) (refused n)
 
 -- the opening goes on; and a call that is not the user's on the entry is not answered 9 or 14
 abbrev pub quiet : ℕ → ℕ → Call → Said → Bool
@@ -44,7 +52,7 @@ quiet u e c a = not (ends u e c && isDone a) && (isOn u e c || not (crowded a))
 
 abbrev pub Quiet : ℕ → ℕ → List Call → Lent → Type 0
 Quiet u e [] x = Unit {0}
-Quiet u e (c ∷ cs) x = T (quiet u e c (outcomeOn c x .answer)) × Quiet u e cs (afterCall c x)
+Quiet u e (c ∷ cs) x = T (quiet u e c (answeredAs c x)) × Quiet u e cs (afterCall c x)
 
 -- a load that is done reads what cells freed segments were left with, and these may differ
 abbrev pub isLoad : Call → Bool
@@ -52,6 +60,7 @@ isLoad (starts fresh) = false
 isLoad (starts (load img)) = true
 isLoad (asks q) = false
 isLoad (on v d r) = false
+isLoad (runs v d r) = false
 
 abbrev pub NoLoad : List Call → Lent → Type 0
 NoLoad [] x = Unit {0}
@@ -68,6 +77,7 @@ isCount (starts c) = false
 isCount (asks (save img)) = false
 isCount (asks (count u)) = true
 isCount (on v d r) = false
+isCount (runs v d r) = false
 
 abbrev pub leftFate : Call → Fate
 leftFate c = cond (isCount c) counts remains

@@ -9,7 +9,7 @@ use Rattle.combine.specs.Below.{countBelow}
 use Rattle.combine.specs.Verdict.{done, refused, isDone}
 use Rattle.combine.specs.Outcome.{outcomeOf}
 use Rattle.placing.specs.Sizes.{greatestUser, segmentCells, openingsStart, tablesLength, lists}
-use Rattle.rules.specs.Calls.{Start, Call, starts, asks, on}
+use Rattle.rules.specs.Calls.{Start, Call, starts, asks, on, runs}
 use Rattle.rules.specs.House.{closedDown}
 use Rattle.segments.specs.Free.{isFree}
 use Rattle.tables.specs.Layout.{segmentsIn, noneOpen}
@@ -61,6 +61,7 @@ abbrev pub isStart : Call → Bool
 isStart (starts c) = true
 isStart (asks q) = false
 isStart (on u e r) = false
+isStart (runs u e r) = false
 
 abbrev pub RefusesUnsound : Type 0
 RefusesUnsound = (c : Call) (x : Lent) → isStart c ≡ false → soundLent (x .store) (x .tables) ≡ false → outcomeOn c x ≡ outcomeOf (refused 20) x

@@ -5,7 +5,7 @@ use mathlib.Core.Option.{Option}
 use mathlib.Core.List.{List, [], _∷_}
 use Rattle.combine.specs.Outcome.{Outcome}
 use Rattle.rules.specs.Calls.{Call}
-use Rattle.cells.specs.Outcomes.{Lent, callOut, callImage}
+use Rattle.cells.specs.Outcomes.{Lent, callOut, callImage, callRun}
 use Rattle.model.specs.Model.{Files, Model}
 use Rattle.model.specs.Step.{Report, report, step, stepTold}
 use Rattle.model.specs.View.{view, filesIn}
@@ -19,7 +19,7 @@ abbrev pub afterCall : Call → Lent → Lent
 afterCall c x = outcomeOn c x .after
 
 abbrev pub toldOf : Call → Lent → Report
-toldOf c x = report c (outcomeOn c x .answer) (filesIn (x .store) (callImage c (x .store) (x .tables)))
+toldOf c x = report c (outcomeOn c x .answer) (filesIn (x .store) (callImage c (x .store) (x .tables))) (callRun c (x .store) (x .tables))
 
 abbrev pub viewOn : Lent → Model
 viewOn x = view (x .store) (x .tables)

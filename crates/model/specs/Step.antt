@@ -6,14 +6,16 @@ use lib.Dec.{eqb, leb}
 use lib.ListN.{length, getD}
 use Rattle.combine.specs.Verdict.{Said, done, isDone, onDone}
 use Rattle.combine.specs.Outcome.{Outcome, outcomeOf, settle}
+use Rattle.combine.specs.Run.{Ran, runOver, admitted}
 use Rattle.placing.specs.Sizes.{Cells, leastStore, entryOf}
 use Rattle.image.specs.Image.{form1, imageLength}
-use Rattle.rules.specs.Calls.{Request, Start, fresh, load, Question, save, count, Call, starts, asks, on}
+use Rattle.rules.specs.Calls.{Request, Start, fresh, load, Question, save, count, Run, Call, starts, asks, on, runs}
 use Rattle.rules.specs.Headings.{Open, isSome}
 use Rattle.rules.specs.Effects.{Effect}
 use Rattle.rules.specs.Gates.{userGate, entryGate, startGate, imageGate}
 use Rattle.rules.specs.House.{closedDown, freshHouse, changed}
 use Rattle.rules.specs.Levels.{perform, ruled, orBlank}
+use Rattle.rules.specs.Runs.{requestsOf, admission, runAnswer, RunTold, runTold, noRun}
 use Rattle.model.specs.Model.{Body, Files, Model, model, free, modelLevel}
 
 abbrev pub performOnModel : Model → (entry : ℕ) → Open Body → Effect → ℕ × Model
@@ -25,6 +27,9 @@ unfoldable pub requestOnModel : Request → (user entry : ℕ) → Model → Out
 requestOnModel r u e m =
     let x = getD (m .house .openings) (entryOf u e) none in
     settle m (entryGate true u e (onDone (performOnModel m (entryOf u e) (orBlank modelLevel x)) (ruled modelLevel r u (m .house) x)))
+
+unfoldable pub runOnModel : Run → (user entry : ℕ) → Model → Ran Model
+runOnModel r u e m = admitted m (admission true r u e (m .house)) (runOver (λ q n. requestOnModel q u e n) (requestsOf r) m)
 
 -- ---- a call; `look` says what files a lent image holds over the store as it is, none where it is not sound
 
@@ -45,22 +50,32 @@ abbrev pub step : (look : Cells → Option Files) → Call → Model → Outcome
 step look (starts c) m = startOnModel look c m
 step look (asks q) m = outcomeOf (askModel q m) m
 step look (on u e r) m = requestOnModel r u e m
+step look (runs u e r) m = outcomeOf (runAnswer (runOnModel r u e m)) (runOnModel r u e m .after)
 
--- ---- what is told of a call: its answer, and the files in the image of a save that is done
+-- what a run tells beside its answer
+abbrev pub stepRun : Call → Model → RunTold
+stepRun (starts c) m = noRun
+stepRun (asks q) m = noRun
+stepRun (on u e r) m = noRun
+stepRun (runs u e r) m = runTold r (runOnModel r u e m)
+
+-- ---- what is told of a call: its answer, the files in the image of a save that is done, and what a run tells
 
 pub record Report : Type 0 where
   pub answer : Said
   pub image : Option Files
+  pub run : RunTold
 
 abbrev pub imageTold : Call → Said → Option Files → Option Files
 imageTold (starts c) a f = none
 imageTold (asks (save img)) a f = cond (isDone a) f none
 imageTold (asks (count u)) a f = none
 imageTold (on u e r) a f = none
+imageTold (runs u e r) a f = none
 
-abbrev pub report : Call → Said → Option Files → Report
-report c a f = record { answer = a; image = imageTold c a f }
+abbrev pub report : Call → Said → Option Files → RunTold → Report
+report c a f r = record { answer = a; image = imageTold c a f; run = r }
 
 -- "Saving writes the records only, whatever is open."
 abbrev pub stepTold : (look : Cells → Option Files) → Call → Model → Report
-stepTold look c m = report c (step look c m .answer) (some (closedDown (m .house)))
+stepTold look c m = report c (step look c m .answer) (some (closedDown (m .house))) (stepRun c m)

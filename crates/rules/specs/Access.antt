@@ -1,6 +1,6 @@
 -- "Pointers and access", renaming and inquiries: the refusals of each act in document 01's order, and what it does. Assumes nothing.
 use Prim.Native.Nat.{ℕ, _+_, _-_}
-use mathlib.Core.Bool.{Bool, not, _&&_, _||_, cond}
+use mathlib.Core.Bool.{Bool, true, not, _&&_, _||_, cond}
 use lib.Dec.{leb, ltb, eqb}
 use lib.ListN.{getD, drop}
 use Rattle.combine.specs.Lists.{firstWhere}
@@ -15,6 +15,13 @@ use Rattle.rules.specs.Effects.{stays, firstLeaves, lastLeaves, stores, 
 -- ---- "for a pointer call 4, 5, 6, 7, 10, 8, 9, 21": "Let v be the value of pointer p."; "Write always, next through 0 and prev through 1
 -- need the work permit."
 
+-- "4, 5": what also judges a run of no element; needs says that the permit is needed
+abbrev pub pointerGate : {S : Type 0} → (pointer : ℕ) (needs : Bool) → Handle → Verdict S → Verdict S
+pointerGate p needs h v =
+    refuse 4 when eqb (value h p) 0 else
+    refuse 5 when needs && not (h .permit) else
+    v
+
 -- "Write: v < b is 6; p not 1 and v >= e is 7. Through 1: append, e grows by 1. Through 0: the first element is dropped, no segment is taken
 -- and no store cell changes. Else position v is replaced. v grows by 1."; "An append refused for 10: e is 16,777,215."
 -- `takes v` says that to store at position v takes a segment
@@ -23,14 +30,13 @@ writeRule p n takes room h =
     let v = value h p in
     let b = value h 0 in
     let e = value h 1 in
-    refuse 4 when eqb v 0 else
-    refuse 5 when not (h .permit) else
+    pointerGate p true h (
     refuse 6 when ltb v b else
     refuse 7 when not (eqb p 1) && leb e v else
     refuse 10 when eqb p 1 && leb greatestEnd v else
     refuse 8 when eqb p 1 && ltb mostHeld (heldOf (h .species) b (v + 1)) else
     refuse 9 when not (eqb p 0) && takes v && not room else
-    done (does (plain 0) (moved h p (v + 1)) (cond (eqb p 0) firstLeaves (stores v n)))
+    done (does (plain 0) (moved h p (v + 1)) (cond (eqb p 0) firstLeaves (stores v n))))
 
 -- "Next: v < b is 6, v >= e is 7. Delivers position v, v grows. Through 0 the element leaves the file."
 unfoldable pub nextRule : (pointer : ℕ) → Handle → Verdict Use
@@ -38,11 +44,10 @@ nextRule p h =
     let v = value h p in
     let b = value h 0 in
     let e = value h 1 in
-    refuse 4 when eqb v 0 else
-    refuse 5 when eqb p 0 && not (h .permit) else
+    pointerGate p (eqb p 0) h (
     refuse 6 when ltb v b else
     refuse 7 when leb e v else
-    done (does (element v) (moved h p (v + 1)) (cond (eqb p 0) firstLeaves stays))
+    done (does (element v) (moved h p (v + 1)) (cond (eqb p 0) firstLeaves stays)))
 
 -- "Prev: v <= b is 6, v > e is 7. v falls by 1, delivers that position. Through 1 the element leaves the file."
 unfoldable pub prevRule : (pointer : ℕ) → Handle → Verdict Use
@@ -50,11 +55,10 @@ prevRule p h =
     let v = value h p in
     let b = value h 0 in
     let e = value h 1 in
-    refuse 4 when eqb v 0 else
-    refuse 5 when eqb p 1 && not (h .permit) else
+    pointerGate p (eqb p 1) h (
     refuse 6 when leb v b else
     refuse 7 when ltb e v else
-    done (does (element (v - 1)) (moved h p (v - 1)) (cond (eqb p 1) lastLeaves stays))
+    done (does (element (v - 1)) (moved h p (v - 1)) (cond (eqb p 1) lastLeaves stays)))
 
 -- "A new own pointer takes the lowest free name, which is the answer, and the value of a given pointer."
 unfoldable pub newPointerRule : (pointer : ℕ) → Handle → Verdict Use

@@ -1,0 +1,130 @@
+-- Laws of combine/specs/Run.antt. Assumes nothing.
+use Prim.Native.Nat.{ℕ, suc, _+_, _<_}
+use mathlib.Core.Path.{_≡_, refl, sym, ap, _∙_, subst}
+use mathlib.Core.Bool.{Bool, true, false, not, _&&_}
+use mathlib.Core.List.{List, [], _∷_, _++_, map, append-assoc}
+use native.Mathlib.Nat.{zero-add}
+use native.Mathlib.Omega.{arith}
+use lib.ListN.{length, getD, length-append}
+use Rattle.combine.specs.Lists.{tab}
+use Rattle.combine.specs.Verdict.{Said, refused, done, isDone}
+use Rattle.combine.specs.Outcome.{Outcome, outcomeOf}
+use Rattle.combine.specs.Run.{Ran, ran, onwards, runOver, admitted}
+
+module _ {S : Type 0} where
+  -- calls that are done and tell l, and then the run r
+  unfoldable pub behind : List ℕ → Ran S → Ran S
+  behind l r = ran (length l + r .many) (r .stop) (l ++ r .told) (r .after)
+
+  pub behind-none : (r : Ran S) → r ≡ behind [] r
+  unfolding behind
+  behind-none r = λ i. ran (sym (zero-add (r .many)) i) (r .stop) (r .told) (r .after)
+
+  pub behind-both : (l m : List ℕ) (r : Ran S) → behind l (behind m r) ≡ behind (l ++ m) r
+  unfolding behind
+  behind-both l m r =
+      let n : length l + (length m + r .many) ≡ length (l ++ m) + r .many = omega (arith, length-append l m) in
+      λ i. ran (n i) (r .stop) (sym (append-assoc l m (r .told)) i) (r .after)
+
+  module _ {A : Type 0} (call : A → S → Outcome S) where
+    -- ---- the first call
+
+    pub run-none : (x : S) → runOver call [] x ≡ ran 0 0 [] x
+    unfolding runOver
+    run-none x = refl
+
+    pub run-stops : (a : A) (rest : List A) (n : ℕ) (x y : S) → call a x ≡ outcomeOf (refused n) y → runOver call (a ∷ rest) x ≡ ran 0 n [] y
+    unfolding runOver
+    run-stops a rest n x y e = ap (λ (o : Outcome S). onwards (o .answer) (o .after) (runOver call rest (o .after))) e
+
+    pub run-first : (a : A) (rest : List A) (v : ℕ) (x y : S) → call a x ≡ outcomeOf (done v) y → runOver call (a ∷ rest) x ≡ behind (v ∷ []) (runOver call rest y)
+    unfolding runOver behind
+    run-first a rest v x y e =
+        let n : suc (runOver call rest y .many) ≡ 1 + runOver call rest y .many = omega arith in
+        ap (λ (o : Outcome S). onwards (o .answer) (o .after) (runOver call rest (o .after))) e
+        ∙ (λ i. ran (n i) (runOver call rest y .stop) (v ∷ runOver call rest y .told) (runOver call rest y .after))
+
+    -- ---- what every call keeps, a run keeps
+
+    module _ (P : S → Type 0) (keeps : (a : A) (x : S) → P x → P (call a x .after)) where
+      pub run-keeps : (l : List A) (x : S) → P x → P (runOver call l x .after)
+      unfolding runOver
+      run-keeps [] x p = p
+      run-keeps (a ∷ l) x p = go (call a x .answer) (run-keeps l (call a x .after) (keeps a x p))
+        where
+          go : (s : Said) → P (runOver call l (call a x .after) .after) → P (onwards s (call a x .after) (runOver call l (call a x .after)) .after)
+          go (refused n) q = keeps a x p
+          go (done v) q = q
+
+    -- ---- calls that are all done, each from the state that the one before left: at j is the state before the call j
+
+    module _ (P : S → Type 0) (keeps : (a : A) (v : ℕ) (x y : S) → P x → call a x ≡ outcomeOf (done v) y → P y) (d : A) (rest : List A) where
+      pub run-along : (l : List A) (at : ℕ → S) (tell : ℕ → ℕ) → P (at 0)
+          → ((j : ℕ) → j < length l → P (at j) → call (getD l j d) (at j) ≡ outcomeOf (done (tell j)) (at (suc j)))
+          → P (at (length l)) × (runOver call (l ++ rest) (at 0) ≡ behind (tab (length l) tell) (runOver call rest (at (length l))))
+      unfolding tab
+      run-along [] at tell p f = (p, behind-none (runOver call rest (at 0)))
+      run-along (a ∷ l) at tell p f =
+          let one = f 0 (omega arith) p in
+          let later = run-along l (λ j. at (suc j)) (λ j. tell (suc j)) (keeps a (tell 0) (at 0) (at 1) p one) (λ j h q. f (suc j) (omega (arith, h)) q) in
+          (later .0, run-first a (l ++ rest) (tell 0) (at 0) (at 1) one ∙ ap (behind (tell 0 ∷ [])) (later .1) ∙ behind-both (tell 0 ∷ []) (tab (length l) (λ j. tell (suc j))) (runOver call rest (at (suc (length l)))))
+
+  -- ---- a run of which nothing is done leaves all as it stood, where every refused call does
+
+  module _ {A : Type 0} (call : A → S → Outcome S) (keeps : (a : A) (x : S) → isDone (call a x .answer) ≡ false → call a x .after ≡ x) where
+    pub run-refused : (l : List A) (x : S) → runOver call l x .many ≡ 0 → runOver call l x .after ≡ x
+    unfolding runOver
+    run-refused [] x e = refl
+    run-refused (a ∷ l) x e = go (call a x .answer) refl e
+      where
+        go : (s : Said) → call a x .answer ≡ s → onwards s (call a x .after) (runOver call l (call a x .after)) .many ≡ 0
+            → onwards s (call a x .after) (runOver call l (call a x .after)) .after ≡ x
+        go (refused n) q z = keeps a x (ap isDone q)
+        go (done v) q z = absurd (omega arith)
+
+  -- ---- what is refused before the first call
+
+  pub admitted-keeps : (P : S → Type 0) (x : S) (v : Said) (r : Ran S) → P x → P (r .after) → P (admitted x v r .after)
+  admitted-keeps P x (refused n) r p q = p
+  admitted-keeps P x (done k) r p q = q
+
+-- ---- the same calls by other names
+
+pub run-map : {A B S : Type 0} (f : A → B) (call : B → S → Outcome S) (l : List A) (x : S) → runOver call (map f l) x ≡ runOver (λ a y. call (f a) y) l x
+unfolding runOver
+run-map f call [] x = refl
+run-map f call (a ∷ l) x =
+    ap (λ (r : Ran _). onwards (call (f a) x .answer) (call (f a) x .after) r) (run-map f call l (call (f a) x .after))
+
+-- ---- the same calls on two kinds of state: view x is what x is seen as
+
+module _ {S M : Type 0} (view : S → M) where
+  pub record Agree (o : Outcome S) (q : Outcome M) : Type 0 where
+    pub answer : o .answer ≡ q .answer
+    pub after : view (o .after) ≡ q .after
+
+  pub record Alike (r : Ran S) (q : Ran M) : Type 0 where
+    pub many : r .many ≡ q .many
+    pub stop : r .stop ≡ q .stop
+    pub told : r .told ≡ q .told
+    pub after : view (r .after) ≡ q .after
+
+  pub admitted-alike : (x : S) (v : Said) (r : Ran S) (q : Ran M) → Alike r q → Alike (admitted x v r) (admitted (view x) v q)
+  admitted-alike x (refused n) r q a = record { many = refl; stop = refl; told = refl; after = refl }
+  admitted-alike x (done k) r q a = a
+
+  module _ {A : Type 0} (f : A → S → Outcome S) (g : A → M → Outcome M) (P : S → Type 0) (keeps : (a : A) (x : S) → P x → P (f a x .after))
+      (agree : (a : A) (x : S) → P x → Agree (f a x) (g a (view x))) where
+    pub run-alike : (l : List A) (x : S) → P x → Alike (runOver f l x) (runOver g l (view x))
+    unfolding runOver
+    run-alike [] x p = record { many = refl; stop = refl; told = refl; after = refl }
+    run-alike (a ∷ l) x p =
+        let e = agree a x p in
+        let later = subst (λ (m : M). Alike (runOver f l (f a x .after)) (runOver g l m)) (e .after) (run-alike l (f a x .after) (keeps a x p)) in
+        subst (λ (s : Said). Alike (onwards (f a x .answer) (f a x .after) (runOver f l (f a x .after))) (onwards s (g a (view x) .after) (runOver g l (g a (view x) .after)))) (e .answer)
+        (go (f a x .answer) (e .after) later)
+      where
+        go : (s : Said) → view (f a x .after) ≡ g a (view x) .after → Alike (runOver f l (f a x .after)) (runOver g l (g a (view x) .after))
+            → Alike (onwards s (f a x .after) (runOver f l (f a x .after))) (onwards s (g a (view x) .after) (runOver g l (g a (view x) .after)))
+        go (refused n) q r = record { many = refl; stop = refl; told = refl; after = q }
+        go (done v) q r = record { many = ap suc (r .many); stop = r .stop; told = ap (λ t. v ∷ t) (r .told); after = r .after }
