@@ -1,0 +1,1 @@
+// What is known behind the gate: laws alone, in specs/.
