@@ -1,6 +1,6 @@
 #!/bin/sh
-# Counts how often each refusal number is answered over generated histories, and fails if one of them comes less
-# often than asked: count-refusals.sh LINES LEAST MODE SEED [SEED ...]
+# Counts how often each refusal number is answered over generated histories, by single calls and by runs, and fails if
+# one of them comes less often than asked: count-refusals.sh LINES LEAST MODE SEED [SEED ...]
 set -eu
 if [ $# -lt 4 ]; then
     echo "count-refusals.sh LINES LEAST MODE SEED [SEED ...]" >&2
@@ -10,18 +10,27 @@ lines=$1 least=$2 mode=$3
 shift 3
 here=$(dirname "$0")
 cargo build --quiet --release --offline --manifest-path "$here/Cargo.toml"
-programs="$here/target/release"
+programs="${CARGO_TARGET_DIR:-$here/target}/release"
 failed=0
 for seed in "$@"; do
     "$programs/generate" "$seed" "$lines" "$mode" | "$programs/second" | awk -v seed="$seed" -v least="$least" '
         $1 == "refused" { count[$2]++ }
         $1 == "done" { done++ }
+        # The last number of a run is the refusal that stopped it, or 0.
+        $1 == "rest" || $1 == "filled" { if ($3 == 0) whole++; else stopped[$3]++ }
         substr($1, 1, 1) == "?" { bad++ }
         END {
             printf "seed %s: done %d, bad lines %d, refused", seed, done, bad
             for (number = 1; number <= 22; number++) {
                 printf " %d:%d", number, count[number]
                 if (count[number] < least) scarce = scarce " " number
+            }
+            printf "\n"
+            printf "seed %s: runs not stopped %d, stopped", seed, whole
+            stops = split("1 2 4 5 6 7 8 9 10 20", stop)
+            for (place = 1; place <= stops; place++) {
+                printf " %d:%d", stop[place], stopped[stop[place]]
+                if (stopped[stop[place]] < least) scarce = scarce " run:" stop[place]
             }
             printf "\n"
             if (scarce != "") { printf "seed %s: too seldom:%s\n", seed, scarce; exit 1 }

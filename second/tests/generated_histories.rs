@@ -7,9 +7,30 @@ use filing::cells::fields::TABLES_LENGTH;
 use filing::cells::tables::catalogue_of;
 use filing::telling::{history, mode::Mode};
 use filing::text::answering::Desk;
+use filing::text::line::{BufferName, Line};
 
-fn sums(desk: &mut Desk) -> [String; 3] {
-    ["sum store", "sum tables", "sum image0"].map(|line| answer(desk, line))
+fn sums(desk: &mut Desk) -> [String; 5] {
+    ["sum store", "sum tables", "sum image0", "sum list0", "sum list1"].map(|line| answer(desk, line))
+}
+
+/// The number at which a run was stopped, if the answer is a run's and it was.
+fn run_stopped_by(said: &str) -> Option<usize> {
+    let words: Vec<&str> = said.split(' ').collect();
+    match words[..] {
+        ["rest" | "filled", _, "0"] => None,
+        ["rest" | "filled", _, number] => Some(number.parse().expect("a number")),
+        _ => None,
+    }
+}
+
+/// Whether this is a run that was stopped before it wrote or filled anything.
+fn run_refused_at_once(desk: &Desk, line: &[u8], said: &str) -> bool {
+    let reached = said.split(' ').nth(1).and_then(|count| count.parse::<usize>().ok());
+    run_stopped_by(said).is_some()
+        && match Line::read(line) {
+            Ok(Line::Writes(_, _, _, list)) => reached == Some(desk.lent(BufferName::List(list))),
+            _ => reached == Some(0),
+        }
 }
 
 /// "Every refusal leaves store, tables and image buffer as they stood." Bad lines change nothing either.
@@ -20,7 +41,7 @@ fn refusals_change_nothing(seed: u64, count: usize, mode: Mode) {
     for line in history(seed, count, mode) {
         let said = desk.answer(&line).unwrap_or_default();
         let after = sums(&mut desk);
-        if said.starts_with("refused") || said.starts_with('?') {
+        if said.starts_with("refused") || said.starts_with('?') || run_refused_at_once(&desk, &line, &said) {
             assert_eq!(before, after, "{}", String::from_utf8_lossy(&line));
             refused += 1;
         }
@@ -72,6 +93,26 @@ fn every_refusal_at_least_five_times() {
             }
         }
         let scarce: Vec<usize> = (1..=22).filter(|&number| counts[number] < 5).collect();
+        assert!(scarce.is_empty(), "seed {}: too seldom: {:?}", seed, scarce);
+    }
+}
+
+/// The refusals that may stop a run.
+const RUN_STOPS: [usize; 10] = [1, 2, 4, 5, 6, 7, 8, 9, 10, 20];
+
+#[test]
+fn every_stop_of_a_run_at_least_five_times() {
+    for seed in 1..=8 {
+        let mut desk = Desk::new();
+        let mut counts = [0; 23];
+        for line in history(seed, 20_000, Mode::Mixed) {
+            let said = desk.answer(&line).unwrap_or_default();
+            if let Some(number) = run_stopped_by(&said) {
+                assert!(RUN_STOPS.contains(&number), "{}: {}", String::from_utf8_lossy(&line), said);
+                counts[number] += 1;
+            }
+        }
+        let scarce: Vec<usize> = RUN_STOPS.into_iter().filter(|&number| counts[number] < 5).collect();
         assert!(scarce.is_empty(), "seed {}: too seldom: {:?}", seed, scarce);
     }
 }

@@ -6,7 +6,7 @@ use common::{answer, check, fresh_desk};
 use std::io::Write;
 use std::process::{Command, Stdio};
 
-const BAD: [&str; 42] = [
+const BAD: [&str; 64] = [
     " ",
     " fresh",
     "fresh ",
@@ -47,6 +47,28 @@ const BAD: [&str; 42] = [
     "sum",
     "sum store 0",
     "peek tables 4294967295",
+    "writes",
+    "writes 0 0 1",
+    "writes 0 0 1 2",
+    "writes 0 0 1 4294967295",
+    "writes 0 0 1 0 0",
+    "writes 0 0 1 0 ",
+    "writes 0 0 1 list0",
+    "nexts",
+    "nexts 0 0 2",
+    "nexts 0 0 2 2",
+    "nexts 0 0 2 -1",
+    "nexts 0 0 2 00000000000",
+    "nexts  0 0 2 0",
+    "prevs 0 0 2 0",
+    "peek list0 2112",
+    "peek list2 0",
+    "peek list 0",
+    "poke list1 2112 0",
+    "poke list0 0",
+    "lend list0 2113",
+    "sum list",
+    "sum list2",
     "help",
     "help 0",
 ];
@@ -60,10 +82,11 @@ fn bad_lines_change_nothing() {
         assert!(answer.starts_with('?') && !answer.contains('\n'), "{:?}: {}", line, answer);
     }
     check(&mut desk, &[("sum tables", "sum 2095095467"), ("sum store", "sum 0"), ("free 0", "done 10")]);
+    check(&mut desk, &[("sum list0", "sum 0"), ("writes 8 0 1 0", "rest 40 1"), ("writes 8 0 1 1", "rest 40 1")]);
 }
 
-/// 24 calls and the four lines for tests.
-const GOOD_LINES: usize = 28;
+/// 26 calls and the four lines for tests.
+const GOOD_LINES: usize = 30;
 
 #[test]
 fn help_lists_good_lines() {
@@ -74,7 +97,7 @@ fn help_lists_good_lines() {
     for line in listed {
         let words = line.split(' ').map(|word| match word {
             "BUFFER" => "store",
-            "U" | "E" | "S" | "P" | "X" | "K" | "I" | "N" | "V" => "0",
+            "U" | "E" | "S" | "P" | "X" | "K" | "I" | "N" | "V" | "L" => "0",
             word => word,
         });
         let line = words.collect::<Vec<_>>().join(" ");
@@ -98,6 +121,9 @@ fn odd_lines_that_are_good() {
         &[("free 0000000007", "done 10"), ("free 4294967295", "refused 1"), ("save 0000000003", "done 0")],
     );
     check(&mut desk, &[("write 9 7 4294967295 1", "refused 1"), ("write 7 9 4294967295 1", "refused 2")]);
+    check(&mut desk, &[("writes 9 7 4294967295 1", "rest 40 1"), ("nexts 7 9 4294967295 0", "filled 0 2")]);
+    check(&mut desk, &[("writes 0 0 0 0000000001", "rest 40 2"), ("nexts 0000000009 0 0 01", "filled 0 1")]);
+    check(&mut desk, &[("lend list0 2112", "lent 2112"), ("peek list0 2111", "cell 0"), ("sum list0", "sum 0")]);
     check(&mut desk, &[("work 0 0", "refused 15"), ("work 0 0 ", "refused 15"), ("work 0 0   a", "refused 11")]);
     check(&mut desk, &[("lend store 0", "lent 0"), ("sum store", "sum 0"), ("lend store 65600", "lent 65600")]);
     check(&mut desk, &[("lend tables 4994", "lent 4994"), ("poke tables 4993 1", "cell 1"), ("fresh", "refused 20")]);

@@ -14,4 +14,8 @@ impl Buffer {
     pub fn lent_cells(&self) -> &[u32] {
         &self.cells[..self.lent]
     }
+
+    pub fn lent_cells_mut(&mut self) -> &mut [u32] {
+        &mut self.cells[..self.lent]
+    }
 }

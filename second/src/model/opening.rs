@@ -8,7 +8,7 @@ use crate::rules::species::Species;
 
 pub const BEGIN: u32 = 0;
 pub const END: u32 = 1;
-const WORK: u32 = 2;
+pub const WORK: u32 = 2;
 
 #[derive(Clone, PartialEq, Eq, Debug)]
 pub struct Opening {

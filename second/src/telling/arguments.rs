@@ -32,7 +32,7 @@ const NAMES: [&[u8]; 20] = [
 
 impl Teller {
     /// Whether something odd is to be said where a good thing could be.
-    fn slip(&mut self, percent: u32) -> bool {
+    pub fn slip(&mut self, percent: u32) -> bool {
         self.mode != Mode::Calm && self.random.chance(percent)
     }
 

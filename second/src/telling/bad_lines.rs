@@ -2,7 +2,7 @@
 
 use super::teller::Teller;
 
-const ODD_LINES: [&[u8]; 58] = [
+const ODD_LINES: [&[u8]; 90] = [
     b"",
     b"#",
     b"# a comment",
@@ -61,6 +61,38 @@ const ODD_LINES: [&[u8]; 58] = [
     b"lend",
     b"sum",
     b"sum stores",
+    b"writes",
+    b"writes 0 0 1",
+    b"writes 0 0 1 2",
+    b"writes 0 0 1 4294967295",
+    b"writes 0 0 1 0 0",
+    b"writes 0 0 1 list0",
+    b"writes 0 0 1 0000000001",
+    b"writes 9 7 4294967295 1",
+    b"write 0 0 1 0 0",
+    b"Writes 0 0 1 0",
+    b"nexts",
+    b"nexts 0 0 2",
+    b"nexts 0 0 2 2",
+    b"nexts 0 0 2 -1",
+    b"nexts 0 0 0000000002 00",
+    b"nexts 0 0 2 0 ",
+    b"nexts 8 4 9 0",
+    b"next 0 0 2 0",
+    b"prevs 0 0 2 0",
+    b"peek list0 2111",
+    b"peek list0 2112",
+    b"peek list2 0",
+    b"peek list 0",
+    b"peek list00 0",
+    b"poke list1 2112 1",
+    b"poke list1 0",
+    b"lend list0 2113",
+    b"lend list1 2112",
+    b"lend list1 4294967295",
+    b"sum list",
+    b"sum list2",
+    b"sum list0 0",
 ];
 
 impl Teller {
@@ -111,8 +143,13 @@ impl Teller {
 
     fn say_a_long_line(&mut self) {
         let length = self.random.pick(&[300, 5_000, 70_000]);
-        let (start, filling) =
-            self.random.pick(&[("read 0 0 ", b' '), ("free ", b'0'), ("rename 1 1 a", b'b'), ("#", b'#')]);
+        let (start, filling) = self.random.pick(&[
+            ("read 0 0 ", b' '),
+            ("free ", b'0'),
+            ("writes 0 0 1 ", b'0'),
+            ("rename 1 1 a", b'b'),
+            ("#", b'#'),
+        ]);
         let mut line = start.as_bytes().to_vec();
         line.resize(length, filling);
         self.say(line);

@@ -7,11 +7,12 @@ use crate::cells::image::IMAGE_LENGTH;
 impl Teller {
     pub fn make_double_faults(&mut self) {
         for _ in 0..self.random.between(1, 3) {
-            match self.random.below(5) {
+            match self.random.below(6) {
                 0 => self.open_an_open_entry(),
                 1 => self.misuse_a_read_opening(),
                 2 => self.ask_for_nothing_of_nobody(),
                 3 => self.save_and_load_with_two_wrong_lengths(),
+                4 => self.run_with_and_without_elements(),
                 _ => self.save_unsound_tables(),
             }
         }
@@ -34,6 +35,9 @@ impl Teller {
             self.say(format!("{} {} {} {}", word, user, entry, pointer));
             self.say(format!("write {} {} {} 1", user, entry, pointer));
         }
+        for pointer in [0, 0, 2, 8] {
+            self.run_through(user, entry, pointer);
+        }
         self.say(format!("public {} {}", user, entry));
         self.say(format!("rename {} {}", user, entry));
     }
@@ -46,6 +50,7 @@ impl Teller {
         self.say(format!("write {} {} 9 9", user, entry));
         self.say(format!("delete {} {} 1", user, entry));
         self.say(format!("pointer {} {} 9", user, entry));
+        self.run_through(user, entry, 9);
     }
 
     fn save_and_load_with_two_wrong_lengths(&mut self) {
@@ -71,6 +76,7 @@ impl Teller {
         self.say(format!("save {}", image));
         self.say(format!("new 8 4 {}", user));
         self.say(format!("free {}", 8 + user));
+        self.run_with_and_without_elements();
         self.say(format!("lend image{} {}", image, IMAGE_LENGTH));
         self.say(format!("load {}", image));
         if self.catalogue().is_none() {

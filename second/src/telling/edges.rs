@@ -85,6 +85,10 @@ impl Teller {
         };
         self.reshape_opening(user, entry, &shape);
         self.inquire_all(user, entry);
+        if self.random.chance(60) {
+            let count = self.random.between(2, 8);
+            self.append_a_run(user, entry, count);
+        }
         self.append_some(user, entry, 6);
         self.work_at_the_edge(user, entry);
         if self.random.chance(60) {
@@ -99,7 +103,7 @@ impl Teller {
     /// Appends, drops at both ends, reads and writes in between.
     fn work_at_the_edge(&mut self, user: u32, entry: u32) {
         for _ in 0..self.random.between(4, 24) {
-            match self.random.weighted(&[9, 4, 4, 3, 2, 1]) {
+            match self.random.weighted(&[9, 4, 4, 3, 2, 2, 1]) {
                 0 => self.append_some(user, entry, 1),
                 1 => {
                     self.say(format!("prev {} {} 1", user, entry));
@@ -115,6 +119,10 @@ impl Teller {
                 }
                 4 => {
                     self.say(format!("next {} {} 0", user, entry));
+                }
+                5 => {
+                    let few = self.random.between(1, 5);
+                    self.append_a_run(user, entry, few);
                 }
                 _ => self.look(),
             }

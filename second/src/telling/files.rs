@@ -3,6 +3,7 @@
 use super::arguments::text_of;
 use super::mode::Mode;
 use super::teller::Teller;
+use crate::model::opening::{BEGIN, END, WORK};
 use crate::rules::species::Species;
 
 impl Teller {
@@ -26,7 +27,11 @@ impl Teller {
         self.end_work(user, entry);
     }
 
+    /// One by one, or now and then several by one run.
     pub fn append_some(&mut self, user: u32, entry: u32, count: u32) {
+        if count > 1 && self.random.chance(25) {
+            return self.append_a_run(user, entry, count);
+        }
         for _ in 0..count {
             let number = self.a_number();
             if self.say(format!("write {} {} 1 {}", user, entry, number)) == "refused 9" {
@@ -36,7 +41,7 @@ impl Teller {
     }
 
     /// Moves an empty new file to just before the end of some stretch, so that narrow species cross it soon.
-    fn begin_near_a_boundary(&mut self, user: u32, entry: u32, species: u32) {
+    pub fn begin_near_a_boundary(&mut self, user: u32, entry: u32, species: u32) {
         let elements = match Species::from_number(species) {
             Some(species) => species.elements_in_a_segment(),
             None => return,
@@ -47,7 +52,7 @@ impl Teller {
     }
 
     /// Closing, mostly; now and then the entry stays open.
-    fn end_work(&mut self, user: u32, entry: u32) {
+    pub fn end_work(&mut self, user: u32, entry: u32) {
         match self.random.weighted(&[40, 25, 12, 23]) {
             0 => self.say(format!("close {} {}", user, entry)),
             1 => self.say(format!("public {} {}", user, entry)),
@@ -80,7 +85,7 @@ impl Teller {
     }
 
     fn change_something(&mut self, user: u32, entry: u32) {
-        match self.random.weighted(&[20, 14, 10, 6, 12, 6, 3, 3, 4]) {
+        match self.random.weighted(&[20, 14, 10, 6, 12, 6, 3, 3, 6, 4]) {
             0 => {
                 let number = self.a_number();
                 self.say(format!("write {} {} 2 {}", user, entry, number));
@@ -105,7 +110,14 @@ impl Teller {
             7 => {
                 self.say(format!("reset {} {}", user, entry));
             }
-            // A run that may empty whole segments.
+            8 => {
+                let pointer = self.random.pick(&[BEGIN, END, WORK, WORK, WORK]);
+                match pointer {
+                    WORK => self.run_from_the_begin(user, entry),
+                    _ => self.run_through(user, entry, pointer),
+                }
+            }
+            // So many that whole segments may be emptied.
             _ => {
                 let (word, pointer) = self.random.pick(&[("prev", 1), ("next", 0)]);
                 for _ in 0..self.random.between(2, 80) {
@@ -141,6 +153,9 @@ impl Teller {
                 }
             }
             self.say(format!("pointer {} {} 1", user, entry));
+        }
+        if self.random.chance(60) {
+            self.run_from_the_begin(user, entry);
         }
         if self.random.chance(30) {
             let pointer = self.a_pointer();

@@ -4,14 +4,14 @@ use super::mode::Mode;
 use super::teller::Teller;
 
 /// How often each story is told, in the order of `tell_a_story`.
-fn weights(mode: Mode) -> [u32; 21] {
+fn weights(mode: Mode) -> [u32; 22] {
     match mode {
-        Mode::Mixed => [16, 12, 18, 8, 8, 5, 2, 3, 4, 6, 3, 12, 3, 8, 4, 4, 5, 5, 4, 5, 4],
-        Mode::Calm => [20, 20, 24, 12, 12, 7, 2, 4, 0, 0, 0, 0, 0, 0, 0, 0, 0, 5, 0, 0, 0],
-        Mode::Small => [16, 20, 20, 8, 8, 3, 1, 10, 2, 2, 0, 3, 1, 3, 1, 1, 2, 4, 2, 1, 2],
-        Mode::Edge => [6, 4, 8, 6, 4, 2, 1, 1, 16, 20, 14, 2, 2, 2, 1, 1, 1, 4, 2, 1, 1],
-        Mode::Damage => [6, 10, 8, 3, 6, 2, 1, 1, 2, 4, 1, 36, 8, 24, 9, 9, 8, 5, 3, 3, 5],
-        Mode::Bytes => [10, 8, 8, 4, 4, 2, 1, 1, 1, 1, 1, 2, 1, 2, 1, 1, 2, 2, 1, 50, 3],
+        Mode::Mixed => [16, 12, 18, 8, 8, 5, 2, 3, 4, 6, 3, 12, 3, 8, 4, 4, 5, 5, 4, 5, 4, 12],
+        Mode::Calm => [20, 20, 24, 12, 12, 7, 2, 4, 0, 0, 0, 0, 0, 0, 0, 0, 0, 5, 0, 0, 0, 14],
+        Mode::Small => [16, 20, 20, 8, 8, 3, 1, 10, 2, 2, 0, 3, 1, 3, 1, 1, 2, 4, 2, 1, 2, 14],
+        Mode::Edge => [6, 4, 8, 6, 4, 2, 1, 1, 16, 20, 14, 2, 2, 2, 1, 1, 1, 4, 2, 1, 1, 8],
+        Mode::Damage => [6, 10, 8, 3, 6, 2, 1, 1, 2, 4, 1, 36, 8, 24, 9, 9, 8, 5, 3, 3, 5, 12],
+        Mode::Bytes => [10, 8, 8, 4, 4, 2, 1, 1, 1, 1, 1, 2, 1, 2, 1, 1, 2, 2, 1, 50, 3, 6],
     }
 }
 
@@ -52,7 +52,8 @@ impl Teller {
             17 => self.save_or_load(),
             18 => self.poke_the_store(),
             19 => self.say_odd_lines(),
-            _ => self.make_double_faults(),
+            20 => self.make_double_faults(),
+            _ => self.use_runs(),
         }
         self.look();
     }

@@ -43,6 +43,11 @@ impl Teller {
         self.desk.cells(buffer)[cell]
     }
 
+    /// How many cells of a buffer are lent.
+    pub fn lent(&self, buffer: BufferName) -> usize {
+        self.desk.lent(buffer)
+    }
+
     pub fn is_open(&self, user: u32, entry: u32) -> bool {
         self.catalogue().map_or(false, |catalogue| catalogue.opening(user, entry).is_ok())
     }
@@ -91,6 +96,10 @@ impl Teller {
             self.say(format!("sum image{}", image));
         }
         if self.random.chance(15) {
+            let list = self.a_list();
+            self.say(format!("sum list{}", list));
+        }
+        if self.random.chance(15) {
             let cell = self.random.below(TABLES_LENGTH as u32 + 64);
             self.say(format!("peek tables {}", cell));
         }
@@ -106,5 +115,6 @@ pub fn buffer_word(buffer: BufferName) -> String {
         BufferName::Store => "store".to_string(),
         BufferName::Tables => "tables".to_string(),
         BufferName::Image(image) => format!("image{}", image),
+        BufferName::List(list) => format!("list{}", list),
     }
 }

@@ -46,6 +46,10 @@ impl Teller {
             ["close", "public", "abandon", "reset", "species", "claim", "permit", "begin", "end", "work", "rename"];
         let word = self.random.pick(&words);
         self.say(format!("{} {} {}", word, user, entry));
+        if self.random.chance(50) {
+            let pointer = self.a_pointer();
+            self.run_through(user, entry, pointer);
+        }
     }
 
     pub fn open_something(&mut self) {
@@ -89,16 +93,21 @@ impl Teller {
         self.access_through(user, entry, pointer);
     }
 
-    /// One write, next or prev.
+    /// One write, next or prev, or a run of them.
     pub fn access_through(&mut self, user: u32, entry: u32, pointer: u32) {
-        match self.random.weighted(&[6, 3, 3]) {
+        match self.random.weighted(&[10, 5, 5, 4]) {
             0 => {
                 let number = self.a_number();
-                self.say(format!("write {} {} {} {}", user, entry, pointer, number))
+                self.say(format!("write {} {} {} {}", user, entry, pointer, number));
             }
-            1 => self.say(format!("next {} {} {}", user, entry, pointer)),
-            _ => self.say(format!("prev {} {} {}", user, entry, pointer)),
-        };
+            1 => {
+                self.say(format!("next {} {} {}", user, entry, pointer));
+            }
+            2 => {
+                self.say(format!("prev {} {} {}", user, entry, pointer));
+            }
+            _ => self.run_through(user, entry, pointer),
+        }
     }
 
     pub fn inquire_something(&mut self) {

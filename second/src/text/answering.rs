@@ -1,32 +1,39 @@
-//! One store, one set of tables and four image buffers, and the answer to each line.
+//! One store, one set of tables, four image buffers and two list buffers, and the answer to each line.
 
-use super::line::{BufferName, Line, IMAGES};
+use super::line::{Line, IMAGES, LISTS};
 use super::words::BadLine;
-use crate::calls::{access, closing, inquiries, opening, pointers};
+use crate::calls::{access, closing, inquiries, opening, pointers, runs};
 use crate::cells::image::{self, IMAGE_LENGTH};
 use crate::cells::tables::Tables;
 use crate::model::buffer::Buffer;
 use crate::model::catalogue::Catalogue;
-use crate::model::store::{Segment, Store};
+use crate::model::store::Store;
 use crate::rules::refusal::{Answer, Refusal};
 
 /// "`image0` to `image3` (1,024 cells each)".
 const IMAGE_CELLS: usize = 1_024;
 
-/// "h = (h * 31 + c) mod 4294967291".
-const SUM_FACTOR: u64 = 31;
-const SUM_MODULUS: u64 = 4_294_967_291;
+/// "Two list buffers, `list0` and `list1`, 2,112 cells each ...; 40 cells of each are lent at first".
+pub const LIST_CELLS: usize = 2_112;
+pub const LIST_LENT_AT_FIRST: usize = 40;
 
 pub struct Desk {
     pub store: Store,
     pub tables: Tables,
-    images: [Buffer; IMAGES],
+    pub(super) images: [Buffer; IMAGES],
+    pub(super) lists: [Buffer; LISTS],
 }
 
 impl Desk {
     pub fn new() -> Desk {
         let image = || Buffer::of_zeros(IMAGE_CELLS, IMAGE_LENGTH);
-        Desk { store: Store::new(), tables: Tables::new(), images: [image(), image(), image(), image()] }
+        let list = || Buffer::of_zeros(LIST_CELLS, LIST_LENT_AT_FIRST);
+        Desk {
+            store: Store::new(),
+            tables: Tables::new(),
+            images: [image(), image(), image(), image()],
+            lists: [list(), list()],
+        }
     }
 
     /// The answer to a line without its newline; nothing for "an empty line and one that begins with `#`".
@@ -42,7 +49,7 @@ impl Desk {
         Ok(match line {
             Line::Lend(buffer, length) => {
                 let length = self.index(buffer, length, 1)?;
-                *self.lent_of(buffer) = length;
+                self.lend(buffer, length);
                 format!("lent {}", length)
             }
             Line::Peek(buffer, cell) => {
@@ -55,6 +62,14 @@ impl Desk {
                 format!("cell {}", value)
             }
             Line::Sum(buffer) => format!("sum {}", self.sum(buffer)),
+            Line::Writes(u, e, p, list) => {
+                let (unwritten, number) = self.write_run(u, e, p, list);
+                format!("rest {} {}", unwritten, number)
+            }
+            Line::Nexts(u, e, p, list) => {
+                let (filled, number) = self.fill_run(u, e, p, list);
+                format!("filled {} {}", filled, number)
+            }
             call => match self.call(call) {
                 Ok(number) => format!("done {}", number),
                 Err(refusal) => format!("refused {}", refusal.number()),
@@ -117,52 +132,21 @@ impl Desk {
         Ok(0)
     }
 
-    /// All cells of a buffer, lent or not; the tables' are made for the asking.
-    pub fn cells(&self, buffer: BufferName) -> std::borrow::Cow<'_, [u32]> {
-        match buffer {
-            BufferName::Store => (&self.store.buffer.cells[..]).into(),
-            BufferName::Tables => self.tables.cells().into(),
-            BufferName::Image(image) => (&self.images[image].cells[..]).into(),
+    /// Refusal 20 leaves the whole list unwritten. It cannot come later in a run, as "every call leaves sound tables
+    /// sound" and nothing is lent otherwise meanwhile.
+    fn write_run(&mut self, user: u32, entry: u32, pointer: u32, list: usize) -> (usize, u32) {
+        let list = self.lists[list].lent_cells();
+        match self.tables.usable_mut(&self.store) {
+            Ok(catalogue) => runs::write_run(catalogue, &mut self.store, user, entry, pointer, list),
+            Err(refusal) => (list.len(), refusal.number()),
         }
     }
 
-    fn lent_of(&mut self, buffer: BufferName) -> &mut usize {
-        match buffer {
-            BufferName::Store => &mut self.store.buffer.lent,
-            BufferName::Tables => &mut self.tables.lent,
-            BufferName::Image(image) => &mut self.images[image].lent,
+    fn fill_run(&mut self, user: u32, entry: u32, pointer: u32, list: usize) -> (usize, u32) {
+        match self.tables.usable_mut(&self.store) {
+            Ok(catalogue) => runs::fill_run(catalogue, user, entry, pointer, self.lists[list].lent_cells_mut()),
+            Err(refusal) => (0, refusal.number()),
         }
-    }
-
-    /// A number of cells (`above` 1) or a cell (`above` 0) that the buffer has.
-    fn index(&self, buffer: BufferName, number: u32, above: usize) -> Result<usize, BadLine> {
-        let length = match buffer {
-            BufferName::Tables => Tables::CELLS,
-            _ => self.cells(buffer).len(),
-        };
-        match usize::try_from(number) {
-            Ok(number) if number < length + above => Ok(number),
-            _ => Err(BadLine("no such cell in the buffer")),
-        }
-    }
-
-    fn poke(&mut self, buffer: BufferName, cell: usize, value: u32) {
-        match buffer {
-            BufferName::Tables => self.tables.poke(&self.store, cell, value),
-            BufferName::Image(image) => self.images[image].cells[cell] = value,
-            BufferName::Store => {
-                self.store.buffer.cells[cell] = value;
-                if let Some(segment) = Segment::around_cell(cell) {
-                    self.tables.store_was_poked(&self.store, segment);
-                }
-            }
-        }
-    }
-
-    fn sum(&mut self, buffer: BufferName) -> u64 {
-        let lent = *self.lent_of(buffer);
-        let cells = self.cells(buffer);
-        cells[..lent].iter().fold(0, |sum, &cell| (sum * SUM_FACTOR + u64::from(cell)) % SUM_MODULUS)
     }
 }
 

@@ -6,17 +6,20 @@ use crate::rules::name::Name;
 
 pub const IMAGES: usize = 4;
 
+pub const LISTS: usize = 2;
+
 /// What `help`, which is a bad line, is told.
 const HELP: &str = "fresh; save I; load I; free U; new U E S; work U E NAME; read U E NAME; rename U E NAME; close U E; \
-    public U E; abandon U E; reset U E; pointer U E P; delete U E P; write U E P X; next U E P; prev U E P; species U E; \
-    claim U E; permit U E; begin U E; end U E; symbol U E K; value U E P; lend BUFFER N; peek BUFFER I; \
-    poke BUFFER I V; sum BUFFER";
+    public U E; abandon U E; reset U E; pointer U E P; delete U E P; write U E P X; next U E P; prev U E P; writes U E P L; \
+    nexts U E P L; species U E; claim U E; permit U E; begin U E; end U E; symbol U E K; value U E P; lend BUFFER N; \
+    peek BUFFER I; poke BUFFER I V; sum BUFFER";
 
 #[derive(Clone, Copy, PartialEq, Eq, Debug)]
 pub enum BufferName {
     Store,
     Tables,
     Image(usize),
+    List(usize),
 }
 
 /// One line that is neither empty nor a comment. U is the user and E the entry, always the first two numbers.
@@ -39,6 +42,8 @@ pub enum Line {
     Write(u32, u32, u32, u32),
     Next(u32, u32, u32),
     Prev(u32, u32, u32),
+    Writes(u32, u32, u32, usize),
+    Nexts(u32, u32, u32, usize),
     Inquire(u32, u32, Inquiry),
     Lend(BufferName, u32),
     Peek(BufferName, u32),
@@ -67,6 +72,8 @@ impl Line {
             b"write" => numbers(rest).map(|[u, e, p, x]| Line::Write(u, e, p, x))?,
             b"next" => numbers(rest).map(|[u, e, p]| Line::Next(u, e, p))?,
             b"prev" => numbers(rest).map(|[u, e, p]| Line::Prev(u, e, p))?,
+            b"writes" => entry_pointer_and_list(rest).map(|(u, e, p, list)| Line::Writes(u, e, p, list))?,
+            b"nexts" => entry_pointer_and_list(rest).map(|(u, e, p, list)| Line::Nexts(u, e, p, list))?,
             b"species" => numbers(rest).map(|[u, e]| Line::Inquire(u, e, Inquiry::Species))?,
             b"claim" => numbers(rest).map(|[u, e]| Line::Inquire(u, e, Inquiry::Claim))?,
             b"permit" => numbers(rest).map(|[u, e]| Line::Inquire(u, e, Inquiry::Permit))?,
@@ -105,6 +112,15 @@ fn image_number(rest: Option<&[u8]>) -> Result<usize, BadLine> {
     }
 }
 
+/// "L and M name a list buffer (0 or 1)"; another one is not there.
+fn entry_pointer_and_list(rest: Option<&[u8]>) -> Result<(u32, u32, u32, usize), BadLine> {
+    let [user, entry, pointer, list] = numbers(rest)?;
+    match usize::try_from(list) {
+        Ok(list) if list < LISTS => Ok((user, entry, pointer, list)),
+        _ => Err(BadLine("no such list buffer")),
+    }
+}
+
 fn buffer_name(word: &[u8]) -> Result<BufferName, BadLine> {
     match word {
         b"store" => Ok(BufferName::Store),
@@ -113,6 +129,8 @@ fn buffer_name(word: &[u8]) -> Result<BufferName, BadLine> {
         b"image1" => Ok(BufferName::Image(1)),
         b"image2" => Ok(BufferName::Image(2)),
         b"image3" => Ok(BufferName::Image(3)),
+        b"list0" => Ok(BufferName::List(0)),
+        b"list1" => Ok(BufferName::List(1)),
         _ => Err(BadLine("no such buffer")),
     }
 }

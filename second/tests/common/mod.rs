@@ -2,6 +2,9 @@
 
 use filing::text::answering::Desk;
 
+#[allow(dead_code)]
+pub mod lists;
+
 /// Says each line and compares its answer.
 #[allow(dead_code)]
 pub fn check(desk: &mut Desk, history: &[(&str, &str)]) {
