@@ -1,0 +1,2 @@
+-- Positions of one stretch, one after another. Assumes nothing.
+pub mod Ahead
