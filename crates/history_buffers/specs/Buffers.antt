@@ -15,18 +15,21 @@ use Rattle.history_buffers.specs.Numbers.{noNumber, oneNumber, twoNumber
 abbrev pub answering : Reply → List ℕ → Answered
 answering r l = record { reply = r; lengths = l }
 
--- ---- what is lent
+-- ---- what is lent: of store, tables, image 0 to 3, list 0 and 1, in this order
+
+abbrev pub lastBuffer : ℕ
+lastBuffer = 7
 
 unfoldable pub withinOf : ℕ → ℕ → ℕ
 withinOf n most = cond (ltb most n) most n
 
 -- of buffer k, which has so many cells
 unfoldable pub lentOf : List ℕ → ℕ → ℕ → ℕ
-lentOf l k most = cond (ltb 5 k) 0 (withinOf (getD l k 0) most)
+lentOf l k most = cond (ltb lastBuffer k) 0 (withinOf (getD l k 0) most)
 
 -- "from now on the first N cells of the buffer are lent"
 unfoldable pub lended : List ℕ → ℕ → ℕ → ℕ → Answered
-lended l k most n = cond (ltb most n) (answering Bad l) (cond (ltb 5 k) (answering Bad l) (answering (Lent n) (set l k n)))
+lended l k most n = cond (ltb most n) (answering Bad l) (cond (ltb lastBuffer k) (answering Bad l) (answering (Lent n) (set l k n)))
 
 unfoldable pub lendLine : List ℕ → ℕ → ℕ → Numbers → Answered
 lendLine l k most ns = onOne (lended l k most) (answering Bad l) (oneNumber ns)

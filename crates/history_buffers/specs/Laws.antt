@@ -18,7 +18,7 @@ use Rattle.history_buffers.specs.declared.Answered.{Answered}
 use Rattle.history_buffers.specs.declared.Pair.{Pair}
 use Rattle.history_buffers.specs.declared.Pair.the-variants as pair
 use Rattle.history_buffers.specs.Numbers.{noNumber, oneNumber, twoNumbers, onOne, onTwo}
-use Rattle.history_buffers.specs.Buffers.{answering, withinOf, lentOf, lended, lendLine, sumOf, sumLine, peeked, peekLine, Poked, poking, poked, pokeLine, Tested, testing, testOf}
+use Rattle.history_buffers.specs.Buffers.{answering, lastBuffer, withinOf, lentOf, lended, lendLine, sumOf, sumLine, peeked, peekLine, Poked, poking, poked, pokeLine, Tested, testing, testOf}
 
 -- ---- numbers that are known
 
@@ -44,25 +44,25 @@ unfolding withinOf
 within-all n most l = simp (le-ltb most n l)
 
 module _ (l : List ℕ) (k most : ℕ) where
-  pub lent-none : 5 < k → 0 ≡ lentOf l k most
+  pub lent-none : lastBuffer < k → 0 ≡ lentOf l k most
   unfolding lentOf
-  lent-none h = simp (lt-ltb 5 k h)
+  lent-none h = simp (lt-ltb lastBuffer k h)
 
-  pub lent-some : (r : ℕ) → k ≤ 5 → r ≡ withinOf (getD l k 0) most → r ≡ lentOf l k most
+  pub lent-some : (r : ℕ) → k ≤ lastBuffer → r ≡ withinOf (getD l k 0) most → r ≡ lentOf l k most
   unfolding lentOf
-  lent-some r h e = e ∙ sym (simp (le-ltb 5 k h))
+  lent-some r h e = e ∙ sym (simp (le-ltb lastBuffer k h))
 
   pub lend-most : (n : ℕ) → most < n → answering Bad l ≡ lended l k most n
   unfolding lended
   lend-most n h = simp (lt-ltb most n h)
 
-  pub lend-where : (n : ℕ) → n ≤ most → 5 < k → answering Bad l ≡ lended l k most n
+  pub lend-where : (n : ℕ) → n ≤ most → lastBuffer < k → answering Bad l ≡ lended l k most n
   unfolding lended
-  lend-where n h g = simp (le-ltb most n h, lt-ltb 5 k g)
+  lend-where n h g = simp (le-ltb most n h, lt-ltb lastBuffer k g)
 
-  pub lend-there : (n : ℕ) → n ≤ most → k ≤ 5 → answering (Lent n) (set l k n) ≡ lended l k most n
+  pub lend-there : (n : ℕ) → n ≤ most → k ≤ lastBuffer → answering (Lent n) (set l k n) ≡ lended l k most n
   unfolding lended
-  lend-there n h g = simp (le-ltb most n h, le-ltb 5 k g)
+  lend-there n h g = simp (le-ltb most n h, le-ltb lastBuffer k g)
 
   module _ (ns : Numbers) (x : Number) (e : x ≡ oneNumber ns) where
     pub lend-bad : x ≡ number.Bad → answering Bad l ≡ lendLine l k most ns

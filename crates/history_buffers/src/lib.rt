@@ -5,8 +5,14 @@ use history_words::Number;
 use history_words::Numbers;
 ghost use mathlib.Core.Path.{_≡_};
 ghost use Prim.Native.Nat.{_+_, _*_, _%_, _≤_};
-ghost use Rattle.history_buffers.specs.Numbers.{noNumber, oneNumber, twoNumbers};
 ghost use Rattle.history_buffers.specs.Buffers.{withinOf, lentOf, lended, lendLine, sumOf, sumLine, peeked, peekLine, poking, poked, pokeLine, testing, testOf};
+
+pub mod numbers; // as many numbers as a line wants
+
+// Store, tables, image 0 to 3, list 0 and 1, in this order.
+pub const BUFFERS: usize = 8;
+
+const LAST_BUFFER: usize = BUFFERS - 1;
 
 // Two numbers, and no more.
 pub enum Pair {
@@ -14,51 +20,10 @@ pub enum Pair {
     Bad,
 }
 
-// What a line is answered, and how many cells are lent from now on of store, tables, and image 0 to 3.
+// What a line is answered, and how many cells are lent from now on of each buffer.
 pub struct Answered {
     pub reply: Reply,
-    pub lengths: [u32; 6],
-}
-
-// ---- as many numbers as a line wants
-
-fn no_number(numbers: Numbers) -> bool
-    ensures { λ r. ⌜ r ≡ noNumber numbers ⌝ }
-{
-    match numbers {
-        Numbers::Zero => true,
-        Numbers::One(a) => false,
-        Numbers::Two(a, b) => false,
-        Numbers::Three(a, b, c) => false,
-        Numbers::Four(a, b, c, d) => false,
-        Numbers::Bad => false,
-    }
-}
-
-pub fn one_number(numbers: Numbers) -> Number
-    ensures { λ r. ⌜ r ≡ oneNumber numbers ⌝ }
-{
-    match numbers {
-        Numbers::Zero => Number::Bad,
-        Numbers::One(a) => Number::Is(a),
-        Numbers::Two(a, b) => Number::Bad,
-        Numbers::Three(a, b, c) => Number::Bad,
-        Numbers::Four(a, b, c, d) => Number::Bad,
-        Numbers::Bad => Number::Bad,
-    }
-}
-
-fn two_numbers(numbers: Numbers) -> Pair
-    ensures { λ r. ⌜ r ≡ twoNumbers numbers ⌝ }
-{
-    match numbers {
-        Numbers::Zero => Pair::Bad,
-        Numbers::One(a) => Pair::Bad,
-        Numbers::Two(a, b) => Pair::Is(a, b),
-        Numbers::Three(a, b, c) => Pair::Bad,
-        Numbers::Four(a, b, c, d) => Pair::Bad,
-        Numbers::Bad => Pair::Bad,
-    }
+    pub lengths: [u32; BUFFERS],
 }
 
 // ---- what is lent
@@ -74,17 +39,17 @@ fn within(lent: u32, most: usize) -> usize
 }
 
 // How many cells are lent of buffer k, which has so many.
-pub fn lent(lengths: [u32; 6], k: usize, most: usize) -> usize
+pub fn lent(lengths: [u32; BUFFERS], k: usize, most: usize) -> usize
     ensures { λ r. ⌜ (r ≡ lentOf lengths k most) × (r ≤ most) ⌝ }
 {
-    if 5 < k {
+    if LAST_BUFFER < k {
         return 0;
     }
     within(lengths[k], most)
 }
 
 // "from now on the first N cells of the buffer are lent"
-fn lend(lengths: [u32; 6], k: usize, most: usize, n: u32) -> Answered
+fn lend(lengths: [u32; BUFFERS], k: usize, most: usize, n: u32) -> Answered
     ensures { λ r. ⌜ r ≡ lended lengths k most n ⌝ }
 {
     let mut changed = lengths;
@@ -94,7 +59,7 @@ fn lend(lengths: [u32; 6], k: usize, most: usize, n: u32) -> Answered
             lengths,
         };
     }
-    if 5 < k {
+    if LAST_BUFFER < k {
         return Answered {
             reply: Reply::Bad,
             lengths,
@@ -107,10 +72,10 @@ fn lend(lengths: [u32; 6], k: usize, most: usize, n: u32) -> Answered
     }
 }
 
-fn lend_line(lengths: [u32; 6], k: usize, most: usize, numbers: Numbers) -> Answered
+fn lend_line(lengths: [u32; BUFFERS], k: usize, most: usize, numbers: Numbers) -> Answered
     ensures { λ r. ⌜ r ≡ lendLine lengths k most numbers ⌝ }
 {
-    let found = one_number(numbers);
+    let found = numbers::one_number(numbers);
     match found {
         Number::Is(n) => lend(lengths, k, most, n),
         Number::Bad => Answered {
@@ -141,10 +106,10 @@ fn sum(cells: &[u32]) -> u32
     h
 }
 
-fn sum_line(cells: &[u32], lengths: [u32; 6], k: usize, numbers: Numbers) -> Reply
+fn sum_line(cells: &[u32], lengths: [u32; BUFFERS], k: usize, numbers: Numbers) -> Reply
     ensures { λ r. ⌜ r ≡ sumLine (now (cells .entry)) lengths k numbers ⌝ }
 {
-    if no_number(numbers) {
+    if numbers::no_number(numbers) {
         let n = lent(lengths, k, cells.len());
         return Reply::Sum(sum(&cells[0..n]));
     }
@@ -165,7 +130,7 @@ fn peek(cells: &[u32], at: u32) -> Reply
 fn peek_line(cells: &[u32], numbers: Numbers) -> Reply
     ensures { λ r. ⌜ r ≡ peekLine (now (cells .entry)) numbers ⌝ }
 {
-    let found = one_number(numbers);
+    let found = numbers::one_number(numbers);
     match found {
         Number::Is(at) => peek(cells, at),
         Number::Bad => Reply::Bad,
@@ -187,7 +152,7 @@ fn poke(cells: &mut [u32], at: u32, value: u32) -> Reply
 fn poke_line(cells: &mut [u32], numbers: Numbers) -> Reply
     ensures { λ r. ⌜ poking r (now (cells .exit)) ≡ pokeLine (now (cells .entry)) numbers ⌝ }
 {
-    let found = two_numbers(numbers);
+    let found = numbers::two_numbers(numbers);
     match found {
         Pair::Is(at, value) => poke(cells, at, value),
         Pair::Bad => Reply::Bad,
@@ -198,7 +163,7 @@ fn poke_line(cells: &mut [u32], numbers: Numbers) -> Reply
 
 pub fn test(
     cells: &mut [u32],
-    lengths: [u32; 6],
+    lengths: [u32; BUFFERS],
     k: usize,
     word: OfBuffer,
     numbers: Numbers,

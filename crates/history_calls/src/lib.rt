@@ -15,6 +15,9 @@ ghost use Rattle.history_calls.specs.Told.{told, toldOf, replyOf};
 pub enum Reply {
     Done(u32),
     Refused(u32),
+    // what a run left unwritten, or filled, and the refusal's number or 0
+    Rest(u32, u32),
+    Filled(u32, u32),
     Lent(u32),
     Cell(u32),
     Sum(u32),

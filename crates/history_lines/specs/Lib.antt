@@ -1,3 +1,4 @@
 -- What lines of histories ask for. Assumes nothing.
 pub mod Spelling
+pub mod Buffers
 pub mod Naming

@@ -10,10 +10,6 @@ use Rattle.history_lines.specs.declared.OfThree.{OfThree}
 use Rattle.history_lines.specs.declared.OfThree.the-variants as OfThree
 use Rattle.history_lines.specs.declared.OfName.{OfName}
 use Rattle.history_lines.specs.declared.OfName.the-variants as OfName
-use Rattle.history_lines.specs.declared.OfBuffer.{OfBuffer}
-use Rattle.history_lines.specs.declared.OfBuffer.the-variants as OfBuffer
-use Rattle.history_lines.specs.declared.Buffer.{Buffer}
-use Rattle.history_lines.specs.declared.Buffer.the-variants as Buffer
 
 -- what stands beside a word in a table, or otherwise what is given
 module _ {A : Type 0} where
@@ -84,33 +80,4 @@ nameWords =
     (114 ∷ 101 ∷ 97 ∷ 100 ∷ [], OfName.Read)
     ∷  -- rename
     (114 ∷ 101 ∷ 110 ∷ 97 ∷ 109 ∷ 101 ∷ [], OfName.Rename)
-    ∷ []
-
-abbrev pub bufferWords : List (List ℕ × OfBuffer)
-bufferWords =
-    -- lend
-    (108 ∷ 101 ∷ 110 ∷ 100 ∷ [], OfBuffer.Lend)
-    ∷  -- peek
-    (112 ∷ 101 ∷ 101 ∷ 107 ∷ [], OfBuffer.Peek)
-    ∷  -- poke
-    (112 ∷ 111 ∷ 107 ∷ 101 ∷ [], OfBuffer.Poke)
-    ∷  -- sum
-    (115 ∷ 117 ∷ 109 ∷ [], OfBuffer.Sum)
-    ∷ []
-
--- "Buffers are named store, tables, image0 to image3."
-abbrev pub bufferNames : List (List ℕ × Buffer)
-bufferNames =
-    -- store
-    (115 ∷ 116 ∷ 111 ∷ 114 ∷ 101 ∷ [], Buffer.Store)
-    ∷  -- tables
-    (116 ∷ 97 ∷ 98 ∷ 108 ∷ 101 ∷ 115 ∷ [], Buffer.Tables)
-    ∷  -- image0
-    (105 ∷ 109 ∷ 97 ∷ 103 ∷ 101 ∷ 48 ∷ [], Buffer.Image 0)
-    ∷  -- image1
-    (105 ∷ 109 ∷ 97 ∷ 103 ∷ 101 ∷ 49 ∷ [], Buffer.Image 1)
-    ∷  -- image2
-    (105 ∷ 109 ∷ 97 ∷ 103 ∷ 101 ∷ 50 ∷ [], Buffer.Image 2)
-    ∷  -- image3
-    (105 ∷ 109 ∷ 97 ∷ 103 ∷ 101 ∷ 51 ∷ [], Buffer.Image 3)
     ∷ []

@@ -1,13 +1,13 @@
 // The words of histories, by what follows them, and lines with names.
 ghost use mathlib.Core.Path.{_≡_};
-ghost use Rattle.history_lines.specs.Spelling.{found, twoWords, threeWords, nameWords, bufferWords, bufferNames};
+ghost use Rattle.history_lines.specs.Spelling.{found, twoWords, threeWords, nameWords};
 ghost use Rattle.history_lines.specs.declared.OfTwo.the-variants as OfTwo;
 ghost use Rattle.history_lines.specs.declared.OfThree.the-variants as OfThree;
 ghost use Rattle.history_lines.specs.declared.OfName.the-variants as OfName;
-ghost use Rattle.history_lines.specs.declared.OfBuffer.the-variants as OfBuffer;
-ghost use Rattle.history_lines.specs.declared.Buffer.the-variants as Buffer;
 ghost use Rattle.history_lines.specs.Naming.{namedAt, entryAt};
 use history_words::NumberAt;
+
+pub mod buffers; // the words of buffers
 
 // The words that are followed by user and entry.
 pub enum OfTwo {
@@ -57,6 +57,16 @@ pub enum Buffer {
     Store,
     Tables,
     Image(usize),
+    List(usize),
+    Unknown,
+}
+
+// The words of the calls to which a buffer is lent beside store and tables: an image, or a list for a run.
+pub enum OfLent {
+    Save,
+    Load,
+    Writes,
+    Nexts,
     Unknown,
 }
 
@@ -139,49 +149,6 @@ pub fn of_name_word(word: &[u8]) -> OfName
         return OfName::Rename;
     }
     OfName::Unknown
-}
-
-pub fn of_buffer_word(word: &[u8]) -> OfBuffer
-    ensures { λ r. ⌜ r ≡ found bufferWords OfBuffer.Unknown (now (word .entry)) ⌝ }
-{
-    if history_words::same(word, b"lend") {
-        return OfBuffer::Lend;
-    }
-    if history_words::same(word, b"peek") {
-        return OfBuffer::Peek;
-    }
-    if history_words::same(word, b"poke") {
-        return OfBuffer::Poke;
-    }
-    if history_words::same(word, b"sum") {
-        return OfBuffer::Sum;
-    }
-    OfBuffer::Unknown
-}
-
-// "Buffers are named store, tables, image0 to image3."
-pub fn buffer_named(word: &[u8]) -> Buffer
-    ensures { λ r. ⌜ r ≡ found bufferNames Buffer.Unknown (now (word .entry)) ⌝ }
-{
-    if history_words::same(word, b"store") {
-        return Buffer::Store;
-    }
-    if history_words::same(word, b"tables") {
-        return Buffer::Tables;
-    }
-    if history_words::same(word, b"image0") {
-        return Buffer::Image(0);
-    }
-    if history_words::same(word, b"image1") {
-        return Buffer::Image(1);
-    }
-    if history_words::same(word, b"image2") {
-        return Buffer::Image(2);
-    }
-    if history_words::same(word, b"image3") {
-        return Buffer::Image(3);
-    }
-    Buffer::Unknown
 }
 
 // The user and the entry that follow a place of the line.

@@ -1,7 +1,7 @@
 use Rattle.history_lines.specs.Spelling.{looking}
 use borrow.Author.Needs.{needs}
-use Rattle.history_lines.proofs.of_buffer_word.Statement.{statement}
-use Rattle.history_lines.proofs.of_buffer_word.Tie as tie
+use Rattle.history_lines.proofs.buffers.of_buffer_word.Statement.{statement}
+use Rattle.history_lines.proofs.buffers.of_buffer_word.Tie as tie
 
 slice-aggregate-same : tie.Need-slice-aggregate-same
 slice-aggregate-same c = search needs

@@ -1,7 +1,7 @@
 use Rattle.history_buffers.specs.Laws.{counted}
 use borrow.Author.Needs.{needs}
-use Rattle.history_buffers.proofs.two_numbers.Statement.{statement}
-use Rattle.history_buffers.proofs.two_numbers.Tie as tie
+use Rattle.history_buffers.proofs.numbers.one_number.Statement.{statement}
+use Rattle.history_buffers.proofs.numbers.one_number.Tie as tie
 
 enum-told : tie.Need-enum-told
 enum-told c = search needs
@@ -25,10 +25,10 @@ returns : tie.Need-returns
 returns c = search needs
 
 returns-2 : tie.Need-returns-2
-returns-2 c = search needs
+returns-2 c = search counted
 
 returns-3 : tie.Need-returns-3
-returns-3 c = search counted
+returns-3 c = search needs
 
 returns-4 : tie.Need-returns-4
 returns-4 c = search needs
@@ -39,8 +39,8 @@ returns-5 c = search needs
 returns-6 : tie.Need-returns-6
 returns-6 c = search needs
 
-pub two-numbers-spec : {M : Type 1} → statement M
-two-numbers-spec =
+pub one-number-spec : {M : Type 1} → statement M
+one-number-spec =
     tie.close
     (tie.spec
     enum-told
