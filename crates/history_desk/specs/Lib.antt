@@ -1,4 +1,3 @@
 -- Every line of a history. Assumes nothing.
 pub mod Desk
-pub mod Laws
 pub mod Speaking

@@ -16,7 +16,7 @@ pub enum Fault {
     NoBuffer, // no buffer's name
     Word, // a word after the last field
     Space, // a space after the last field
-    Beyond, // an image, a cell or a length that is not there
+    Beyond, // an image, a list, a cell or a length that is not there
 }
 
 // A fault, and the field of the form that it is about; no bytes where it is about none.
@@ -56,12 +56,13 @@ fn number_fault(word: &[u8]) -> Fault {
 }
 
 fn buffer_fault(word: &[u8]) -> Fault {
-    let named = history_lines::buffer_named(word);
+    let named = history_lines::buffers::buffer_named(word);
     match named {
         Buffer::Unknown => Fault::NoBuffer,
         Buffer::Store => Fault::None,
         Buffer::Tables => Fault::None,
         Buffer::Image(k) => Fault::None,
+        Buffer::List(k) => Fault::None,
     }
 }
 
@@ -91,17 +92,35 @@ fn fault_at(form: &[u8], field: Part, line: &[u8], word: Part) -> Fault
     word_fault(&form[field_from..field_to], &line[word_from..word_to])
 }
 
-// The first field that is a number: every form that names an image, a cell or a length has it there.
-fn first_number(form: &[u8]) -> Part
+// Whether not every number is there.
+fn is_limited(field: &[u8]) -> bool {
+    if history_words::same(field, b"IMAGE") {
+        return true;
+    }
+    if history_words::same(field, b"LIST") {
+        return true;
+    }
+    if history_words::same(field, b"LENGTH") {
+        return true;
+    }
+    history_words::same(field, b"CELL")
+}
+
+// The first such field of a form.
+fn first_limited(form: &[u8]) -> Part
     ensures { λ r. ⌜ Within r (length (now (form .entry))) ⌝ }
 {
-    let first = word_after(form, history_words::word_end(form, 0));
-    let from = first.from;
-    let to = first.to;
-    if history_words::same(&form[from..to], b"BUFFER") {
-        return word_after(form, to);
+    let mut at = history_words::word_end(form, 0);
+    while at < form.len() {
+        let field = word_after(form, at);
+        let from = field.from;
+        let to = field.to;
+        if is_limited(&form[from..to]) {
+            return field;
+        }
+        at = to;
     }
-    first
+    Part { from: 0, to: 0 }
 }
 
 // Every field has its word: what follows the last is too much, and if nothing does, something is not there.
@@ -123,7 +142,7 @@ fn departure_at_end(form: &[u8], line: &[u8], at: usize) -> Departure
     }
     Departure {
         fault: Fault::Beyond,
-        field: first_number(form),
+        field: first_limited(form),
     }
 }
 

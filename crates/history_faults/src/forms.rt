@@ -4,7 +4,7 @@ use crate::parts::Part;
 ghost use lib.ListN.{length};
 ghost use Rattle.history_faults.specs.Parts.{Within};
 
-pub const FORMS: [u8; 562] = *b"fresh; \
+pub const FORMS: [u8; 625] = *b"fresh; \
     save IMAGE; \
     load IMAGE; \
     free USER; \
@@ -21,6 +21,8 @@ pub const FORMS: [u8; 562] = *b"fresh; \
     write USER ENTRY POINTER ELEMENT; \
     next USER ENTRY POINTER; \
     prev USER ENTRY POINTER; \
+    writes USER ENTRY POINTER LIST; \
+    nexts USER ENTRY POINTER LIST; \
     species USER ENTRY; \
     claim USER ENTRY; \
     permit USER ENTRY; \

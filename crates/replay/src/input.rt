@@ -1,5 +1,6 @@
 // Bytes of a history, gathered into lines; each line is answered where it ends.
 use crate::output;
+use history_buffers::BUFFERS;
 ghost use Prim.Native.Nat.{_≤_};
 ghost use lib.ListN.{length};
 
@@ -18,7 +19,7 @@ const ANSWER: usize = 1024;
 pub struct Filled {
     pub line: usize,
     pub out: usize,
-    pub lengths: [u32; 6],
+    pub lengths: [u32; BUFFERS],
 }
 
 // A byte of a line, kept where the line still has room for it.
@@ -52,14 +53,14 @@ fn line_end(line: &[u8], n: usize) -> usize
 fn answer(
     store: &mut [u32],
     tables: &mut [u32],
-    images: &mut [u32],
+    others: &mut [u32],
     line: &[u8],
     out: &mut [u8],
     filled: Filled,
 ) -> Filled {
     let n = line_end(line, filled.line);
     let lengths = filled.lengths;
-    let told = history_desk::answer(store, tables, images, lengths, &line[0..n]);
+    let told = history_desk::answer(store, tables, others, lengths, &line[0..n]);
     let reply = told.reply;
     let changed = told.lengths;
     let next = output::say(out, filled.out, reply, &line[0..n]);
@@ -82,14 +83,14 @@ fn answer(
 pub fn take_byte(
     store: &mut [u32],
     tables: &mut [u32],
-    images: &mut [u32],
+    others: &mut [u32],
     line: &mut [u8],
     out: &mut [u8],
     byte: u8,
     filled: Filled,
 ) -> Filled {
     if byte == b'\n' {
-        return answer(store, tables, images, line, out, filled);
+        return answer(store, tables, others, line, out, filled);
     }
     let lengths = filled.lengths;
     Filled {
@@ -102,7 +103,7 @@ pub fn take_byte(
 pub fn take_bytes(
     store: &mut [u32],
     tables: &mut [u32],
-    images: &mut [u32],
+    others: &mut [u32],
     line: &mut [u8],
     out: &mut [u8],
     input: &[u8],
@@ -111,7 +112,7 @@ pub fn take_bytes(
     let mut filled = from;
     let mut i: usize = 0;
     while i < input.len() {
-        filled = take_byte(store, tables, images, line, out, input[i], filled);
+        filled = take_byte(store, tables, others, line, out, input[i], filled);
         i += 1;
     }
     filled

@@ -2,7 +2,7 @@
 mod input; // bytes gathered into lines
 mod output; // the answers
 
-use history_desk::sizes;
+use history_lent::sizes;
 use input::Filled;
 use libc::STDIN_FILENO;
 
@@ -20,7 +20,7 @@ struct Read {
 fn one_read(
     store: &mut [u32],
     tables: &mut [u32],
-    images: &mut [u32],
+    others: &mut [u32],
     line: &mut [u8],
     out: &mut [u8],
     filled: Filled,
@@ -34,7 +34,7 @@ fn one_read(
         };
     }
     let n = io::count(got, &brought);
-    let next = input::take_bytes(store, tables, images, line, out, &brought[..n], filled);
+    let next = input::take_bytes(store, tables, others, line, out, &brought[..n], filled);
     let kept = next.line;
     let lengths = next.lengths;
     output::flush(out, next.out);
@@ -52,7 +52,7 @@ fn one_read(
 fn read_all(
     store: &mut [u32],
     tables: &mut [u32],
-    images: &mut [u32],
+    others: &mut [u32],
     line: &mut [u8],
     out: &mut [u8],
     from: Filled,
@@ -61,7 +61,7 @@ fn read_all(
     let mut turns = u64::MAX;
     while turns > 0 {
         turns -= 1;
-        let read = one_read(store, tables, images, line, out, filled);
+        let read = one_read(store, tables, others, line, out, filled);
         filled = read.filled;
         let turn = read.turn;
         match turn {
@@ -76,7 +76,7 @@ fn read_all(
 fn finish(
     store: &mut [u32],
     tables: &mut [u32],
-    images: &mut [u32],
+    others: &mut [u32],
     line: &mut [u8],
     out: &mut [u8],
     filled: Filled,
@@ -84,14 +84,14 @@ fn finish(
     if filled.line == 0 {
         return;
     }
-    let end = input::take_byte(store, tables, images, line, out, b'\n', filled);
+    let end = input::take_byte(store, tables, others, line, out, b'\n', filled);
     output::flush(out, end.out);
 }
 
 fn main() {
     let mut store = [0u32; sizes::STORE_BUFFER];
     let mut tables = [0u32; sizes::TABLES_BUFFER];
-    let mut images = [0u32; sizes::IMAGES_BUFFER];
+    let mut others = [0u32; sizes::OTHERS_BUFFER];
     let mut line = [0u8; input::LINE];
     let mut out = [0u8; input::OUT];
     let lengths = sizes::LENT;
@@ -103,7 +103,7 @@ fn main() {
     let filled = read_all(
         &mut store,
         &mut tables,
-        &mut images,
+        &mut others,
         &mut line,
         &mut out,
         start,
@@ -111,7 +111,7 @@ fn main() {
     finish(
         &mut store,
         &mut tables,
-        &mut images,
+        &mut others,
         &mut line,
         &mut out,
         filled,

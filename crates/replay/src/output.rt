@@ -11,11 +11,21 @@ fn say_number(out: &mut [u8], at: usize, word: &[u8], n: u32) -> usize {
     append(out, to, b"\n")
 }
 
+fn say_two(out: &mut [u8], at: usize, word: &[u8], n: u32, m: u32) -> usize {
+    let mut decimal = [0u8; 20];
+    let k = io::decimal(n as u64, &mut decimal);
+    let from = append(out, at, word);
+    let to = append(out, from, &decimal[..k]);
+    say_number(out, to, b" ", m)
+}
+
 // Puts the answer to a line into the text from a place on; answers the place after it.
 pub fn say(out: &mut [u8], at: usize, reply: Reply, line: &[u8]) -> usize {
     match reply {
         Reply::Done(n) => say_number(out, at, b"done ", n),
         Reply::Refused(n) => say_number(out, at, b"refused ", n),
+        Reply::Rest(left, number) => say_two(out, at, b"rest ", left, number),
+        Reply::Filled(many, number) => say_two(out, at, b"filled ", many, number),
         Reply::Lent(n) => say_number(out, at, b"lent ", n),
         Reply::Cell(n) => say_number(out, at, b"cell ", n),
         Reply::Sum(n) => say_number(out, at, b"sum ", n),

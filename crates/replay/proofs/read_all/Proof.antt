@@ -5,11 +5,11 @@ use Rattle.replay.proofs.read_all.Statement.{statement}
 use Rattle.replay.proofs.read_all.Tie as tie
 
 abbrev Inv-loop : tie.InvT-loop
-Inv-loop store₀ tables₀ images₀ line₀ out₀ filled₀ turns₀ store tables images line out filled turns =
-    (length store ≡ length store₀) × (length tables ≡ length tables₀) × (length images ≡ length images₀) × (length line ≡ length line₀) × (length out ≡ length out₀)
+Inv-loop store₀ tables₀ others₀ line₀ out₀ filled₀ turns₀ store tables others line out filled turns =
+    (length store ≡ length store₀) × (length tables ≡ length tables₀) × (length others ≡ length others₀) × (length line ≡ length line₀) × (length out ≡ length out₀)
 
 abbrev μ-loop : tie.MeasureT-loop
-μ-loop store₀ tables₀ images₀ line₀ out₀ filled₀ turns₀ store tables images line out filled turns =
+μ-loop store₀ tables₀ others₀ line₀ out₀ filled₀ turns₀ store tables others line out filled turns =
     turns
 
 loop-holds : tie.Need-loop-holds Inv-loop μ-loop

@@ -6,11 +6,11 @@ use Rattle.replay.proofs.input.take_bytes.Statement.{statement}
 use Rattle.replay.proofs.input.take_bytes.Tie as tie
 
 abbrev Inv-loop : tie.InvT-loop
-Inv-loop store₀ tables₀ images₀ line₀ out₀ input filled₀ i₀ store tables images line out filled i =
-    (length store ≡ length store₀) × (length tables ≡ length tables₀) × (length images ≡ length images₀) × (length line ≡ length line₀) × (length out ≡ length out₀)
+Inv-loop store₀ tables₀ others₀ line₀ out₀ input filled₀ i₀ store tables others line out filled i =
+    (length store ≡ length store₀) × (length tables ≡ length tables₀) × (length others ≡ length others₀) × (length line ≡ length line₀) × (length out ≡ length out₀)
 
 abbrev μ-loop : tie.MeasureT-loop
-μ-loop store₀ tables₀ images₀ line₀ out₀ input filled₀ i₀ store tables images line out filled i =
+μ-loop store₀ tables₀ others₀ line₀ out₀ input filled₀ i₀ store tables others line out filled i =
     length input - i
 
 loop-holds : tie.Need-loop-holds Inv-loop μ-loop

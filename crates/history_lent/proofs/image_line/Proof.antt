@@ -1,7 +1,7 @@
-use Rattle.history_desk.specs.Speaking.{image-lines}
+use Rattle.history_lent.specs.ImageLaws.{image-lines}
 use borrow.Author.Needs.{needs}
-use Rattle.history_desk.proofs.image_line.Statement.{statement}
-use Rattle.history_desk.proofs.image_line.Tie as tie
+use Rattle.history_lent.proofs.image_line.Statement.{statement}
+use Rattle.history_lent.proofs.image_line.Tie as tie
 
 enum-known-found : tie.Need-enum-known-found
 enum-known-found c = search needs

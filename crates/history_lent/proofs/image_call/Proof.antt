@@ -1,9 +1,9 @@
 use denote.Ref.{now}
 use native.Mathlib.Omega.{arith}
-use Rattle.history_desk.specs.Laws.{saved-to, image-calls}
+use Rattle.history_lent.specs.ImageLaws.{saved-to, image-calls}
 use borrow.Author.Needs.{needs}
-use Rattle.history_desk.proofs.image_call.Statement.{statement}
-use Rattle.history_desk.proofs.image_call.Tie as tie
+use Rattle.history_lent.proofs.image_call.Statement.{statement}
+use Rattle.history_lent.proofs.image_call.Tie as tie
 
 returns : tie.Need-returns
 returns c = search image-calls
@@ -74,7 +74,7 @@ same-length-2 c = search needs
 returns-3 : tie.Need-returns-3
 returns-3 c =
     let a = c .before .before .before .before .before .before .before .before .before .before .before .before .before .before .before .before .before .args in
-    saved-to (a .lengths) (now (a .store)) (now (a .tables)) _ _ (c .before .before .before .before .before .before .before .before .before .before .before .lent .ensures .0) (c .before .before .before .before .before .before .before .before .before .before .lent2 .ensures .0) (now (a .images)) (a .k) _ (c .before .before .before .before .before .before .before .before .before .lent3 .ensures .0) (omega arith) (c .before .before .before .before .before .before .before .before .before .before .before .before .if2 .left) _ (c .before .before .before .save .result) _ _ (c .before .before .before .before .before .before .before .before .if3 .taken) (c .replied .ensures) (c .before .before .before .save .ensures)
+    saved-to (a .lengths) (now (a .store)) (now (a .tables)) _ _ (c .before .before .before .before .before .before .before .before .before .before .before .lent .ensures .0) (c .before .before .before .before .before .before .before .before .before .before .lent2 .ensures .0) (now (a .others)) (a .k) _ (c .before .before .before .before .before .before .before .before .before .lent3 .ensures .0) (omega arith) (c .before .before .before .before .before .before .before .before .before .before .before .before .if2 .left) _ (c .before .before .before .save .result) _ _ (c .before .before .before .before .before .before .before .before .if3 .taken) (c .replied .ensures) (c .before .before .before .save .ensures)
 
 sub-load : tie.Need-sub-load
 sub-load c = search needs
