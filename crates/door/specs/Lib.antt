@@ -1,4 +1,5 @@
 -- What a caller in C or Rust is handed. Assumes nothing.
 pub mod Handed
 pub mod Version
+pub mod Runs
 pub mod laws

@@ -1,2 +1,3 @@
 -- The laws of this crate's definitions. Assumes nothing.
 pub mod Handed
+pub mod Runs

@@ -7,4 +7,5 @@ pub mod naming; // what a byte string names
 pub mod operator; // fresh start, save, load, free segments
 pub mod catalogue; // open, rename, close, abandon
 pub mod elements; // pointers, write, next, prev
+pub mod runs; // runs of elements
 pub mod inquiry; // what is asked about an open file

@@ -11,6 +11,7 @@ ghost use Rattle.history_lent.specs.Images.{imageCall, imageLine};
 ghost use Rattle.history_lent.specs.Rooms.{lending};
 
 pub mod sizes; // the sizes of the buffers
+pub mod lists; // runs, which are lent a list
 
 // Save to image buffer k, or load from it.
 fn image_call(
