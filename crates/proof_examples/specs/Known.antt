@@ -7,16 +7,17 @@ use mathlib.Core.List.{List, [], _∷_}
 use lib.Dec.{T, leb}
 use Rattle.combine.specs.Verdict.{Said, done, refuse_when_else_}
 use Rattle.combine.specs.Outcome.{Outcome, settle}
+use Rattle.combine.specs.Run.{runOver}
 use Rattle.names.specs.Names.{symbolsOf, nameOf, scratchName, isScratch}
 use Rattle.placing.specs.Placing.{stretchOf, offsetOf, heldOf, claimOf, slotOf}
 use Rattle.placing.specs.Sizes.{Cells, widthOf, elementsOf}
-use Rattle.rules.specs.Calls.{fresh, load, Call, starts, asks, on}
+use Rattle.rules.specs.Calls.{fresh, load, Call, starts, asks, on, runs}
 use Rattle.rules.specs.Access.{writeRule, nextRule, prevRule, newPointerRule, renameRule}
 use Rattle.rules.specs.Rules.{lookUp, openNew, openedAs, openOld, headed, closeRule}
 use Rattle.rules.specs.Gates.{userGate, entryGate, startGate, imageGate}
 use Rattle.cells.specs.Outcomes.{Lent, lent}
 use Rattle.model.specs.Model.{Files, Model, free}
-use Rattle.model.specs.Step.{step, requestOnModel}
+use Rattle.model.specs.Step.{step, requestOnModel, runOnModel}
 use Rattle.model.specs.View.{filesIn}
 use Rattle.combine.specs.laws.Tests.{and-first, and-second}
 use Rattle.proof_calls_sound.specs.Keeps.{keeps-sound}
@@ -42,6 +43,7 @@ step-blind f (starts fresh) m n = refl
 step-blind f (starts (load img)) m n = absurd n
 step-blind f (asks q) m n = refl
 step-blind f (on u e r) m n = refl
+step-blind f (runs u e r) m n = refl
 
 module _ (c : Call) (x : Lent) (s : Sound x) (n : T (not (isLoad c))) where
   pub answer-blind : outcomeOn c x .answer ≡ step blind c (viewOn x) .answer
@@ -54,7 +56,7 @@ module _ (c : Call) (x : Lent) (s : Sound x) (n : T (not (isLoad c))) where
 
 -- what unfolds this unfolds every definition that the answers rest on
 unfoldable pub answersKnown : List Call → Model → List Said
-unfolding refuse_when_else_ settle symbolsOf nameOf scratchName isScratch stretchOf offsetOf heldOf claimOf slotOf widthOf elementsOf writeRule nextRule prevRule newPointerRule renameRule lookUp openNew openedAs openOld headed closeRule userGate entryGate startGate imageGate free requestOnModel
+unfolding refuse_when_else_ settle symbolsOf nameOf scratchName isScratch stretchOf offsetOf heldOf claimOf slotOf widthOf elementsOf writeRule nextRule prevRule newPointerRule renameRule lookUp openNew openedAs openOld headed closeRule userGate entryGate startGate imageGate free requestOnModel runOver runOnModel
 answersKnown [] m = []
 answersKnown (c ∷ cs) m = step blind c m .answer ∷ answersKnown cs (step blind c m .after)
 
