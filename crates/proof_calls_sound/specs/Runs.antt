@@ -1,6 +1,6 @@
 -- What every single call keeps of sound tables and their store, a run of them keeps. Assumes nothing.
 use Prim.Native.Nat.{ℕ, _*_, _≤_}
-use mathlib.Core.Path.{_≡_, refl, sym, ap, _∙_, subst}
+use mathlib.Core.Path.{_≡_, refl, sym, _∙_, subst}
 use lib.ListN.{length, getD}
 use Rattle.combine.specs.Outcome.{Outcome}
 use Rattle.combine.specs.Run.{runOver}

@@ -8,6 +8,7 @@ use lib.Dec.{T, leb}
 use lib.ListN.{getD}
 use Rattle.combine.specs.Verdict.{Said, done}
 use Rattle.rules.specs.Calls.{Call}
+use Rattle.rules.specs.Runs.{noRun}
 use Rattle.cells.specs.Outcomes.{Lent}
 use Rattle.model.specs.Step.{Report}
 use Rattle.demands.specs.History.{toldAll}
@@ -32,7 +33,7 @@ Passed f (c ∷ cs) (a ∷ l) = T (f c a) × Passed f cs l
 
 -- the answer to the kth of the calls that stay
 abbrev pub heardAt : ℕ → List Report → Said
-heardAt k l = getD l k (record { answer = done 0; image = none }) .answer
+heardAt k l = getD l k (record { answer = done 0; image = none; run = noRun }) .answer
 
 pub answered-otherwise : (h : Story) (x : Lent) (k : ℕ) (a b : Said)
     → heardAt k (heard (wholeFates h) (toldAll (whole h) x)) ≡ a → heardAt k (heard (restFates h) (toldAll (rest h) x)) ≡ b → (a ≡ b → ⊥) → NoTrace h x → ⊥

@@ -7,7 +7,7 @@ use Rattle.combine.specs.Verdict.{Said, done, refused, isDone}
 use Rattle.rules.specs.Calls.{Call}
 use Rattle.cells.specs.Outcomes.{Lent}
 use Rattle.demands.specs.History.{outcomeOn, afterCall, final}
-use Rattle.demands.specs.Abandoning.{isOn, ends, crowded, quiet, Quiet, NoLoad, Story, openingCall, abandoning, Abandoned}
+use Rattle.demands.specs.Abandoning.{isOn, ends, crowded, answeredAs, quiet, Quiet, NoLoad, Story, openingCall, abandoning, Abandoned}
 
 -- ---- but that other calls between may be answered n: 9, "no room", or 14, "not now"
 
@@ -20,7 +20,7 @@ quietBut n u e c a = refusedFor n a || quiet u e c a
 
 abbrev pub QuietBut : ℕ → ℕ → ℕ → List Call → Lent → Type 0
 QuietBut n u e [] x = Unit {0}
-QuietBut n u e (c ∷ cs) x = T (quietBut n u e c (outcomeOn c x .answer)) × QuietBut n u e cs (afterCall c x)
+QuietBut n u e (c ∷ cs) x = T (quietBut n u e c (answeredAs c x)) × QuietBut n u e cs (afterCall c x)
 
 pub record AbandonedBut (n : ℕ) (h : Story) (x : Lent) : Type 0 where
   pub opened : T (isDone (outcomeOn (openingCall h) (final (h .before) x) .answer))
@@ -30,7 +30,7 @@ pub record AbandonedBut (n : ℕ) (h : Story) (x : Lent) : Type 0 where
 -- the premise left out: no call but the user's on the entry is answered n
 abbrev pub NoneAnswered : ℕ → ℕ → ℕ → List Call → Lent → Type 0
 NoneAnswered n u e [] x = Unit {0}
-NoneAnswered n u e (c ∷ cs) x = T (isOn u e c || not (refusedFor n (outcomeOn c x .answer))) × NoneAnswered n u e cs (afterCall c x)
+NoneAnswered n u e (c ∷ cs) x = T (isOn u e c || not (refusedFor n (answeredAs c x))) × NoneAnswered n u e cs (afterCall c x)
 
 quiet-with : (n u e : ℕ) (c : Call) (a : Said) → T (quietBut n u e c a) → T (isOn u e c || not (refusedFor n a)) → T (quiet u e c a)
 quiet-with n u e c (done m) q t = q
@@ -45,7 +45,7 @@ quiet-with n u e c (refused m) q t = go (eqb m n) (isOn u e c) (ends u e c) q t
 
 quietly-with : (n u e : ℕ) (cs : List Call) (x : Lent) → QuietBut n u e cs x → NoneAnswered n u e cs x → Quiet u e cs x
 quietly-with n u e [] x q t = tt
-quietly-with n u e (c ∷ cs) x q t = (quiet-with n u e c (outcomeOn c x .answer) (q .0) (t .0), quietly-with n u e cs (afterCall c x) (q .1) (t .1))
+quietly-with n u e (c ∷ cs) x q t = (quiet-with n u e c (answeredAs c x) (q .0) (t .0), quietly-with n u e cs (afterCall c x) (q .1) (t .1))
 
 -- with it, these are the premises of demand 3
 pub with-none-answered : (n : ℕ) (h : Story) (x : Lent) → AbandonedBut n h x

@@ -3,6 +3,7 @@ pub mod Eased
 pub mod Calm
 pub mod Another
 pub mod Own
+pub mod Runs
 pub mod Steps
 pub mod Beside
 pub mod Histories

@@ -2,7 +2,7 @@
 use Prim.Native.Nat.{ℕ}
 use mathlib.Core.Path.{_≡_, refl, ap, ap₂, _∙_}
 use mathlib.Core.Bool.{Bool, true, not, _&&_}
-use mathlib.Core.Option.{Option, none}
+use mathlib.Core.Option.{Option, none, some}
 use mathlib.Core.List.{List, [], _∷_}
 use lib.Dec.{T, leb}
 use Rattle.combine.specs.Verdict.{Said, done, refuse_when_else_}
@@ -15,16 +15,17 @@ use Rattle.rules.specs.Calls.{fresh, load, Call, starts, asks, on, runs}
 use Rattle.rules.specs.Access.{writeRule, nextRule, prevRule, newPointerRule, renameRule}
 use Rattle.rules.specs.Rules.{lookUp, openNew, openedAs, openOld, headed, closeRule}
 use Rattle.rules.specs.Gates.{userGate, entryGate, startGate, imageGate}
+use Rattle.rules.specs.House.{closedDown}
 use Rattle.cells.specs.Outcomes.{Lent, lent}
 use Rattle.model.specs.Model.{Files, Model, free}
-use Rattle.model.specs.Step.{step, requestOnModel, runOnModel}
+use Rattle.model.specs.Step.{Report, report, step, stepRun, stepTold, requestOnModel, runOnModel}
 use Rattle.model.specs.View.{filesIn}
 use Rattle.combine.specs.laws.Tests.{and-first, and-second}
 use Rattle.proof_calls_sound.specs.Keeps.{keeps-sound}
-use Rattle.demands.specs.History.{outcomeOn, afterCall, viewOn}
+use Rattle.demands.specs.History.{outcomeOn, afterCall, toldOf, viewOn}
 use Rattle.demands.specs.Demands.{Sound}
 use Rattle.demands.specs.Abandoning.{isLoad}
-use Rattle.proof_demand2.specs.Demand2.{answer-known, after-known}
+use Rattle.proof_demand2.specs.Demand2.{told-known, after-known}
 use Rattle.examples.specs.Examples.{answersOn, AnswersSo}
 use Rattle.proof_examples.specs.Fresh.{nothingThere, fresh-is-done, fresh-leaves-sound, fresh-leaves-nothing}
 
@@ -46,8 +47,13 @@ step-blind f (on u e r) m n = refl
 step-blind f (runs u e r) m n = refl
 
 module _ (c : Call) (x : Lent) (s : Sound x) (n : T (not (isLoad c))) where
+  pub told-blind : toldOf c x ≡ stepTold blind c (viewOn x)
+  told-blind =
+      told-known c x s
+      ∙ ap (λ (o : Outcome Model). report c (o .answer) (some (closedDown (viewOn x .house))) (stepRun c (viewOn x))) (step-blind (filesIn (x .store)) c (viewOn x) n)
+
   pub answer-blind : outcomeOn c x .answer ≡ step blind c (viewOn x) .answer
-  answer-blind = answer-known c x s ∙ ap (λ (o : Outcome Model). o .answer) (step-blind (filesIn (x .store)) c (viewOn x) n)
+  answer-blind = ap (λ (r : Report). r .answer) told-blind
 
   pub after-blind : viewOn (afterCall c x) ≡ step blind c (viewOn x) .after
   after-blind = after-known c x s ∙ ap (λ (o : Outcome Model). o .after) (step-blind (filesIn (x .store)) c (viewOn x) n)
