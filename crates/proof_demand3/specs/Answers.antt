@@ -1,12 +1,12 @@
 -- What the answers of a history show of a story. Assumes nothing.
 use Prim.Native.Nat.{ℕ}
-use mathlib.Core.Path.{_≡_, sym, ap, _∙_}
-use mathlib.Core.Bool.{Bool, true}
+use mathlib.Core.Path.{_≡_, sym, ap, _∙_, subst}
+use mathlib.Core.Bool.{Bool, true, not}
 use mathlib.Core.Option.{none}
 use mathlib.Core.List.{List, [], _∷_}
-use lib.Dec.{T, leb}
+use lib.Dec.{T, leb, eqb, eqb-refl, T-not}
 use lib.ListN.{getD}
-use Rattle.combine.specs.Verdict.{Said, done}
+use Rattle.combine.specs.Verdict.{Said, done, refused}
 use Rattle.rules.specs.Calls.{Call}
 use Rattle.rules.specs.Runs.{noRun}
 use Rattle.cells.specs.Outcomes.{Lent}
@@ -38,3 +38,11 @@ heardAt k l = getD l k (record { answer = done 0; image = none; run = noRun }) .
 pub answered-otherwise : (h : Story) (x : Lent) (k : ℕ) (a b : Said)
     → heardAt k (heard (wholeFates h) (toldAll (whole h) x)) ≡ a → heardAt k (heard (restFates h) (toldAll (rest h) x)) ≡ b → (a ≡ b → ⊥) → NoTrace h x → ⊥
 answered-otherwise h x k a b with without otherwise n = otherwise (sym with ∙ ap (heardAt k) (n .sameAnswers) ∙ without)
+
+-- done with another number
+pub numbers-differ : (m n : ℕ) → T (not (eqb m n)) → _≡_ {A = Said} (done m) (done n) → ⊥
+numbers-differ m n t e = T-not (eqb m n) t (subst (λ (k : ℕ). T (eqb m k)) (ap number e) (eqb-refl m))
+  where
+    number : Said → ℕ
+    number (refused k) = k
+    number (done k) = k

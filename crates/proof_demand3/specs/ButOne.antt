@@ -1,11 +1,12 @@
 -- The premises of demand 3 but one: what a story meets that shows the one to be needed. Assumes nothing.
 use Prim.Native.Nat.{ℕ}
-use mathlib.Core.Bool.{Bool, true, false, not, _&&_, _||_}
+use mathlib.Core.Bool.{Bool, true, false, not, _&&_, _||_, cond}
 use mathlib.Core.List.{List, [], _∷_, _++_}
 use lib.Dec.{T, eqb}
 use Rattle.combine.specs.Verdict.{Said, done, refused, isDone}
+use Rattle.combine.specs.laws.Tests.{and-intro}
 use Rattle.rules.specs.Calls.{Call}
-use Rattle.cells.specs.Outcomes.{Lent}
+use Rattle.cells.specs.Outcomes.{Lent, callRun}
 use Rattle.demands.specs.History.{outcomeOn, afterCall, final}
 use Rattle.demands.specs.Abandoning.{isOn, ends, crowded, answeredAs, quiet, Quiet, NoLoad, Story, openingCall, abandoning, Abandoned}
 
@@ -51,6 +52,43 @@ quietly-with n u e (c ∷ cs) x q t = (quiet-with n u e c (answeredAs c x) (q .0
 pub with-none-answered : (n : ℕ) (h : Story) (x : Lent) → AbandonedBut n h x
     → NoneAnswered n (h .user) (h .entry) (h .between) (afterCall (openingCall h) (final (h .before) x)) → Abandoned h x
 with-none-answered n h x a t = record { opened = a .opened; quietly = quietly-with n (h .user) (h .entry) (h .between) _ (a .quietly) t; noLoad = a .noLoad }
+
+-- ---- but that a run is taken for what it is answered: what stops it after some elements is not seen
+
+abbrev pub QuietByAnswer : ℕ → ℕ → List Call → Lent → Type 0
+QuietByAnswer u e [] x = Unit {0}
+QuietByAnswer u e (c ∷ cs) x = T (quiet u e c (outcomeOn c x .answer)) × QuietByAnswer u e cs (afterCall c x)
+
+pub record AbandonedByAnswer (h : Story) (x : Lent) : Type 0 where
+  pub opened : T (isDone (outcomeOn (openingCall h) (final (h .before) x) .answer))
+  pub quietly : QuietByAnswer (h .user) (h .entry) (h .between) (afterCall (openingCall h) (final (h .before) x))
+  pub noLoad : NoLoad (h .later) (final (h .before ++ openingCall h ∷ (h .between ++ abandoning h ∷ [])) x)
+
+-- the premise left out: no run but the user's on the entry is stopped by 9 or 14
+abbrev pub NoneStopped : ℕ → ℕ → List Call → Lent → Type 0
+NoneStopped u e [] x = Unit {0}
+NoneStopped u e (c ∷ cs) x = T (isOn u e c || not (crowded (refused (callRun c (x .store) (x .tables) .stop)))) × NoneStopped u e cs (afterCall c x)
+
+quiet-unstopped : (u e : ℕ) (c : Call) (a : Said) (n : ℕ) → T (quiet u e c a) → T (isOn u e c || not (crowded (refused n))) → T (quiet u e c (cond (eqb n 0) a (refused n)))
+quiet-unstopped u e c a n q t = go (eqb n 0)
+  where
+    never : (b : Bool) → T (not (b && false))
+    never true = tt
+    never false = tt
+
+    go : (unstopped : Bool) → T (quiet u e c (cond unstopped a (refused n)))
+    go true = q
+    go false = and-intro (not (ends u e c && false)) (isOn u e c || not (crowded (refused n))) (never (ends u e c)) t
+
+quietly-unstopped : (u e : ℕ) (cs : List Call) (x : Lent) → QuietByAnswer u e cs x → NoneStopped u e cs x → Quiet u e cs x
+quietly-unstopped u e [] x q t = tt
+quietly-unstopped u e (c ∷ cs) x q t = (
+  quiet-unstopped u e c (outcomeOn c x .answer) (callRun c (x .store) (x .tables) .stop) (q .0) (t .0),
+  quietly-unstopped u e cs (afterCall c x) (q .1) (t .1),
+)
+
+pub with-none-stopped : (h : Story) (x : Lent) → AbandonedByAnswer h x → NoneStopped (h .user) (h .entry) (h .between) (afterCall (openingCall h) (final (h .before) x)) → Abandoned h x
+with-none-stopped h x a t = record { opened = a .opened; quietly = quietly-unstopped (h .user) (h .entry) (h .between) _ (a .quietly) t; noLoad = a .noLoad }
 
 -- ---- but that an image may be loaded after the abandonment
 

@@ -15,5 +15,6 @@ pub mod Told
 pub mod ButOne
 pub mod Needed9
 pub mod Needed14
+pub mod NeededRun
 pub mod SavedImage
 pub mod NeededLoad
