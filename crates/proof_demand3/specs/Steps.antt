@@ -63,12 +63,12 @@ load-alike f g h m n o img same t =
 abbrev pub answeredIn : Report → Said
 answeredIn r = cond (eqb (r .run .stop) 0) (r .answer) (refused (r .run .stop))
 
--- 0 stands for no refusal
-unstopped : (n : ℕ) (a : Said) → T (not (crowded (cond (eqb n 0) a (refused n)))) → T (not (crowded (refused n)))
-unstopped n a t = go (eqb n 0) refl t
+-- what is not answered 9 or 14 in this sense is not stopped by them; a stop of 0 is no refusal
+unstopped : (r : Report) → T (not (crowded (answeredIn r))) → T (not (crowded (refused (r .run .stop))))
+unstopped r t = go (eqb (r .run .stop) 0) refl t
   where
-    go : (b : Bool) → eqb n 0 ≡ b → T (not (crowded (cond b a (refused n)))) → T (not (crowded (refused n)))
-    go true p t = subst (λ (k : ℕ). T (not (crowded (refused k)))) (sym (eqb-true n 0 p)) tt
+    go : (b : Bool) → eqb (r .run .stop) 0 ≡ b → T (not (crowded (cond b (r .answer) (refused (r .run .stop))))) → T (not (crowded (refused (r .run .stop))))
+    go true p t = subst (λ (n : ℕ). T (not (crowded (refused n)))) (sym (eqb-true (r .run .stop) 0 p)) tt
     go false p t = t
 
 pub goes-on : (u e : ℕ) (c : Call) (a : Said) → T (quiet u e c a) → T (not (ends u e c && isDone a))
@@ -128,7 +128,7 @@ step-another u e f g m (on v d r) le same other q =
     whole-carried (entryOf u e) (on v d r) f g m (request-another u e m v d r le (rw other tt) (uncrowded u e (on v d r) (step f (on v d r) m .answer) other q)) refl
 step-another u e f g m (runs v d r) le same other q =
     run-carried (entryOf u e) v d r f g m
-    (run-another u e v d le (rw other tt) r m (unstopped (runOnModel r v d m .stop) (step f (runs v d r) m .answer) (uncrowded u e (runs v d r) (answeredIn (stepTold f (runs v d r) m)) other q)))
+    (run-another u e v d le (rw other tt) r m (unstopped (stepTold f (runs v d r) m) (uncrowded u e (runs v d r) (answeredIn (stepTold f (runs v d r) m)) other q)))
 
 -- ---- a call on the same state, beside another store
 
