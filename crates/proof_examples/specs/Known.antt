@@ -10,12 +10,13 @@ use Rattle.combine.specs.Outcome.{Outcome, settle}
 use Rattle.combine.specs.Run.{runOver}
 use Rattle.names.specs.Names.{symbolsOf, nameOf, scratchName, isScratch}
 use Rattle.placing.specs.Placing.{stretchOf, offsetOf, heldOf, claimOf, slotOf}
-use Rattle.placing.specs.Sizes.{Cells, widthOf, elementsOf}
+use Rattle.placing.specs.Sizes.{Cells, leastStore, widthOf, elementsOf}
 use Rattle.rules.specs.Calls.{fresh, load, Call, starts, asks, on, runs}
 use Rattle.rules.specs.Access.{writeRule, nextRule, prevRule, newPointerRule, renameRule}
 use Rattle.rules.specs.Rules.{lookUp, openNew, openedAs, openOld, headed, closeRule}
 use Rattle.rules.specs.Gates.{userGate, entryGate, startGate, imageGate}
 use Rattle.rules.specs.House.{closedDown}
+use Rattle.rules.specs.Runs.{RunTold, noRun}
 use Rattle.cells.specs.Outcomes.{Lent, lent}
 use Rattle.model.specs.Model.{Files, Model, free}
 use Rattle.model.specs.Step.{Report, report, step, stepRun, stepTold, requestOnModel, runOnModel}
@@ -26,7 +27,7 @@ use Rattle.demands.specs.History.{outcomeOn, afterCall, toldOf, viewOn}
 use Rattle.demands.specs.Demands.{Sound}
 use Rattle.demands.specs.Abandoning.{isLoad}
 use Rattle.proof_demand2.specs.Demand2.{told-known, after-known}
-use Rattle.examples.specs.Examples.{answersOn, AnswersSo}
+use Rattle.examples.specs.Examples.{answersOn, AnswersSo, runsOn, TellsSo}
 use Rattle.proof_examples.specs.Fresh.{nothingThere, fresh-is-done, fresh-leaves-sound, fresh-leaves-nothing}
 
 -- no image is looked at
@@ -74,6 +75,21 @@ answers-known (c ∷ cs) x s n =
     let later = answers-known cs (afterCall c x) (keeps-sound c x s) (and-second (not (isLoad c)) (noLoadb cs) n) in
     ap₂ {C = List Said} (λ a l. a ∷ l) (answer-blind c x s one) (later ∙ ap (answersKnown cs) (after-blind c x s one))
 
+-- ---- what the runs of a history tell
+
+unfoldable pub runsKnown : List Call → Model → List RunTold
+unfolding answersKnown
+runsKnown [] m = []
+runsKnown (c ∷ cs) m = stepRun c m ∷ runsKnown cs (step blind c m .after)
+
+pub runs-known : (cs : List Call) (x : Lent) → Sound x → T (noLoadb cs) → runsOn cs x ≡ runsKnown cs (viewOn x)
+unfolding runsKnown
+runs-known [] x s n = refl
+runs-known (c ∷ cs) x s n =
+    let one = and-first (not (isLoad c)) (noLoadb cs) n in
+    let later = runs-known cs (afterCall c x) (keeps-sound c x s) (and-second (not (isLoad c)) (noLoadb cs) n) in
+    ap₂ {C = List RunTold} (λ a l. a ∷ l) (ap (λ (r : Report). r .run) (told-blind c x s one)) (later ∙ ap (runsKnown cs) (after-blind c x s one))
+
 -- ---- after a fresh start over n cells
 
 pub answers-after : (n : ℕ) (calls : List Call) (said : List Said) → leb 64 n ≡ true → T (noLoadb calls) → answersKnown calls (nothingThere n) ≡ said
@@ -83,3 +99,11 @@ answers-after n calls said large none-loaded e s t cells long =
     ap₂ {C = List Said} (λ a l. a ∷ l) (fresh-is-done s t n cells large long)
     (answers-known calls (afterCall (starts fresh) (lent s t)) (fresh-leaves-sound s t n cells large long) none-loaded
     ∙ ap (answersKnown calls) (fresh-leaves-nothing s t n cells large long) ∙ e)
+
+pub runs-after : (n : ℕ) (calls : List Call) (told : List RunTold) → leb leastStore n ≡ true → T (noLoadb calls) → runsKnown calls (nothingThere n) ≡ told
+    → TellsSo n (starts fresh ∷ calls) (noRun ∷ told)
+unfolding TellsSo
+runs-after n calls told large none-loaded e s t cells long =
+    ap (λ (l : List RunTold). noRun ∷ l)
+    (runs-known calls (afterCall (starts fresh) (lent s t)) (fresh-leaves-sound s t n cells large long) none-loaded
+    ∙ ap (runsKnown calls) (fresh-leaves-nothing s t n cells large long) ∙ e)
