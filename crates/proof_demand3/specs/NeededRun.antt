@@ -9,12 +9,13 @@ use lib.ListN.{getD, drop, replicate}
 use Rattle.combine.specs.Verdict.{Said, done, refused, isDone}
 use Rattle.placing.specs.Sizes.{segmentCells}
 use Rattle.rules.specs.Calls.{new, write, opens, uses, writes, on, runs}
+use Rattle.rules.specs.Runs.{noRun}
 use Rattle.demands.specs.Abandoning.{quiet, Story, whole, rest, NoTrace}
-use Rattle.examples.specs.Examples.{answersOn}
+use Rattle.examples.specs.Examples.{answersOn, runsOn, told}
 use Rattle.proof_examples.specs.Fresh.{nothingThere}
-use Rattle.proof_examples.specs.Known.{answersKnown}
+use Rattle.proof_examples.specs.Known.{answersKnown, runsKnown}
 use Rattle.proof_demand3.specs.Started.{startedOver}
-use Rattle.proof_demand3.specs.Answers.{answers-started, Passed, answered-otherwise, numbers-differ}
+use Rattle.proof_demand3.specs.Answers.{answers-started, runs-started, Passed, answered-otherwise, numbers-differ}
 use Rattle.proof_demand3.specs.ButOne.{AbandonedByAnswer}
 
 abbrev twoSegments : ℕ
@@ -45,6 +46,15 @@ answered-with = answers-started twoSegments refl (whole takesOneSegment) tt ∙ 
 
 answered-without : answersOn (rest takesOneSegment) (startedOver twoSegments) ≡ done 0 ∷ done 65 ∷ []
 answered-without = answers-started twoSegments refl (rest takesOneSegment) tt ∙ known-without
+
+-- with the opening the run is stopped by 9, and hands back its last element
+
+runs-with : runsKnown (whole takesOneSegment) (nothingThere twoSegments) ≡ noRun ∷ noRun ∷ noRun ∷ told 9 (20 ∷ []) ∷ noRun ∷ []
+unfolding runsKnown
+runs-with = refl
+
+pub stopped-by-9 : runsOn (whole takesOneSegment) (startedOver twoSegments) ≡ noRun ∷ noRun ∷ noRun ∷ told 9 (20 ∷ []) ∷ noRun ∷ []
+stopped-by-9 = runs-started twoSegments refl (whole takesOneSegment) tt ∙ runs-with
 
 -- ---- the premise is needed
 
