@@ -1,4 +1,4 @@
--- The worked examples that document 01 marks, as one list. Assumes nothing.
+-- The worked examples that document 01 marks, and one of document 02's runs of elements, as one list. Assumes nothing.
 use Prim.Native.Nat.{ℕ, _*_}
 use mathlib.Core.Path.{_≡_}
 use mathlib.Core.Bool.{false}
@@ -10,9 +10,11 @@ use Rattle.placing.specs.Sizes.{Cells, segmentCells, tablesLength}
 use Rattle.placing.specs.Placing.{segment, position, heldOf, claimOf}
 use Rattle.store.specs.Store.{putElement}
 use Rattle.names.specs.Names.{Bytes, nameOf}
-use Rattle.rules.specs.Calls.{new, work, read, rename, newPointer, write, next, prev, askBegin, askEnd, Request, opens, closes, abandons, uses, Call, fresh, starts, on}
+use Rattle.rules.specs.Calls.{new, work, read, rename, reset, newPointer, write, next, prev, askBegin, askEnd, Request, opens, closes, abandons, uses}
+use Rattle.rules.specs.Calls.{Run, writes, fills, Call, fresh, starts, on, runs}
+use Rattle.rules.specs.Runs.{RunTold, noRun}
 use Rattle.image.specs.Image.{form1, imageLength}
-use Rattle.cells.specs.Outcomes.{Lent, lent, saved, saveOut}
+use Rattle.cells.specs.Outcomes.{Lent, lent, saved, saveOut, callRun}
 use Rattle.demands.specs.History.{outcomeOn, afterCall, final}
 
 -- ---- what is said of calls one after another, over a store of so many cells: whatever it, the tables and an image buffer held before
@@ -24,6 +26,14 @@ answersOn (c ∷ cs) x = outcomeOn c x .answer ∷ answersOn cs (afterCall c x)
 
 unfoldable pub AnswersSo : (cells : ℕ) (calls : List Call) (said : List Said) → Type 0
 AnswersSo n calls said = (store tables : Cells) → length store ≡ n → length tables ≡ tablesLength → answersOn calls (lent store tables) ≡ said
+
+-- the runs among the calls tell so beside their answers
+abbrev pub runsOn : List Call → Lent → List RunTold
+runsOn [] x = []
+runsOn (c ∷ cs) x = callRun c (x .store) (x .tables) ∷ runsOn cs (afterCall c x)
+
+unfoldable pub TellsSo : (cells : ℕ) (calls : List Call) (told : List RunTold) → Type 0
+TellsSo n calls told = (store tables : Cells) → length store ≡ n → length tables ≡ tablesLength → runsOn calls (lent store tables) ≡ told
 
 -- a save after the calls is done, leaves the image in the buffer, and store and tables as the calls left them
 unfoldable pub SavesAfter : (cells : ℕ) (calls : List Call) (image : Cells) → Type 0
@@ -37,11 +47,13 @@ SavesAfter n calls image =
 pub data Example : Type 0 where
   numbers : (given said : List ℕ) → Example
   answers : (cells : ℕ) (calls : List Call) (said : List Said) → Example
+  tells : (cells : ℕ) (calls : List Call) (told : List RunTold) → Example
   saves : (cells : ℕ) (calls : List Call) (image : Cells) → Example
 
 abbrev pub Holds : Example → Type 0
 Holds (numbers given said) = given ≡ said
 Holds (answers n calls said) = AnswersSo n calls said
+Holds (tells n calls told) = TellsSo n calls told
 Holds (saves n calls image) = SavesAfter n calls image
 
 abbrev pub AllHold : List Example → Type 0
@@ -114,5 +126,31 @@ givenUp =
     ∷ opens (read bytesOfA) ∷ uses (next 2) ∷ uses (next 2) ∷ []))
     (done 0 ∷ done 0 ∷ done 0 ∷ done 0 ∷ done 0 ∷ done 0 ∷ done 0 ∷ done 20 ∷ done 0 ∷ done 0 ∷ done 0 ∷ done 10 ∷ done 20 ∷ [])
 
+-- ---- runs of elements (document 02, P1), of user 2 by entry 0
+
+abbrev pub ranBy : Run → Call
+ranBy r = runs 2 0 r
+
+abbrev pub told : (stop : ℕ) (list : List ℕ) → RunTold
+told n l = record { stop = n; list = l }
+
+-- in a new file of species 3 a run of 300, 7, 9 through pointer 1 is done, 3; after a reset five places filled by next through pointer 2 are done, 3,
+-- stopped by 7: they have 44 (300 cut as a write cuts it), 7, 9, and the two others are as they were; after a reset a run of 1, 2, 3, 4 through
+-- pointer 2 is done, 3, stopped by 7, and hands back 4; an empty run through pointer 5, which is not there, is refused, 4
+abbrev pub makesRuns : List Call
+makesRuns =
+    starts fresh ∷ on 2 0 (opens (new 3)) ∷ ranBy (writes 1 (300 ∷ 7 ∷ 9 ∷ []))
+    ∷ on 2 0 (uses reset) ∷ ranBy (fills 2 (91 ∷ 92 ∷ 93 ∷ 94 ∷ 95 ∷ []))
+    ∷ on 2 0 (uses reset) ∷ ranBy (writes 2 (1 ∷ 2 ∷ 3 ∷ 4 ∷ []))
+    ∷ ranBy (writes 5 []) ∷ []
+
+abbrev pub runsAnswered : Example
+runsAnswered = answers segmentCells makesRuns (done 0 ∷ done 0 ∷ done 3 ∷ done 0 ∷ done 3 ∷ done 0 ∷ done 3 ∷ refused 4 ∷ [])
+
+abbrev pub runsTold : Example
+runsTold =
+    tells segmentCells makesRuns
+    (noRun ∷ noRun ∷ told 0 [] ∷ noRun ∷ told 7 (44 ∷ 7 ∷ 9 ∷ 94 ∷ 95 ∷ []) ∷ noRun ∷ told 7 (4 ∷ []) ∷ told 4 [] ∷ [])
+
 abbrev pub worked : List Example
-worked = lift7 ∷ lift ∷ ten ∷ loses ∷ claims ∷ appends ∷ ownPointer ∷ savedFresh ∷ savedFile ∷ givenUp ∷ []
+worked = lift7 ∷ lift ∷ ten ∷ loses ∷ claims ∷ appends ∷ ownPointer ∷ savedFresh ∷ savedFile ∷ givenUp ∷ runsAnswered ∷ runsTold ∷ []

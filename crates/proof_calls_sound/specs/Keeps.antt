@@ -8,7 +8,7 @@ use lib.ListN.{length, getD}
 use Rattle.combine.specs.laws.Below.{split-bool, not-both}
 use Rattle.combine.specs.Verdict.{isDone}
 use Rattle.combine.specs.Outcome.{Outcome}
-use Rattle.rules.specs.Calls.{fresh, load, Call, starts, asks, on}
+use Rattle.rules.specs.Calls.{fresh, load, Call, starts, asks, on, runs}
 use Rattle.tables.specs.laws.Sound.{ranged-of}
 use Rattle.cells.specs.Outcomes.{Lent, soundLent}
 use Rattle.cells.specs.laws.Operator.{fresh-keeps-store, load-keeps-store}
@@ -18,12 +18,14 @@ use Rattle.demands.specs.laws.Unsound.{refuses-unsound}
 use Rattle.proof_requests_agree.specs.Requests.{request-store-length, request-tables-length, request-sound, request-beyond}
 use Rattle.proof_calls_sound.specs.Fresh.{fresh-tables-length, fresh-tables-sound}
 use Rattle.proof_calls_sound.specs.Starts.{fresh-cases, load-cases, right-length, large-store, image-sound}
+use Rattle.proof_calls_sound.specs.Runs.{run-kept}
 
 pub keeps-sound : KeepsSound
 keeps-sound (starts fresh) x ok = fresh-cases (λ o. Sound (o .after)) (x .store) (x .tables) ok (λ l. fresh-tables-sound (length (x .store)) (large-store (x .store) (x .tables) l))
 keeps-sound (asks q) x ok = ok
 keeps-sound (starts (load img)) x ok = load-cases (λ o. Sound (o .after)) (x .store) (x .tables) img (λ n. ok) (λ l i. image-sound (length (x .store)) img i)
 keeps-sound (on u e r) x ok = request-sound r (x .store) (x .tables) u e ok
+keeps-sound (runs u e r) x ok = run-kept u e x r ok .sound
 
 -- ---- a call that is done
 
@@ -43,11 +45,19 @@ done-is-sound (starts (load img)) x d =
     load-cases (λ o. isDone (o .answer) ≡ true → Sound (o .after)) (x .store) (x .tables) img (λ n q. absurd (not-both q refl))
     (λ l i q. image-sound (length (x .store)) img i) d
 done-is-sound (on u e r) x d = keeps-sound (on u e r) x (done-on-sound (on u e r) x refl d)
+done-is-sound (runs u e r) x d = keeps-sound (runs u e r) x (done-on-sound (runs u e r) x refl d)
 
 -- ---- lengths
 
 abbrev SameLengths : Lent → Lent → Type 0
 SameLengths x y = (length (y .store) ≡ length (x .store)) × (length (y .tables) ≡ length (x .tables))
+
+-- a call that looks at what the tables hold is refused on unsound tables
+lengths-of : (c : Call) (x : Lent) → isStart c ≡ false → (Sound x → SameLengths x (afterCall c x)) → SameLengths x (afterCall c x)
+lengths-of c x s h = ⊎-elim
+    h
+    (λ unsound. subst (λ (o : Outcome Lent). SameLengths x (o .after)) (sym (refuses-unsound c x s unsound)) (refl, refl))
+    (split-bool (soundLent (x .store) (x .tables)))
 
 pub keeps-lengths : KeepsLengths
 keeps-lengths (starts fresh) x = fresh-cases (λ o. SameLengths x (o .after)) (x .store) (x .tables) (refl, refl)
@@ -55,10 +65,9 @@ keeps-lengths (starts fresh) x = fresh-cases (λ o. SameLengths x (o .after)) (x
 keeps-lengths (asks q) x = (refl, refl)
 keeps-lengths (starts (load img)) x = load-cases (λ o. SameLengths x (o .after)) (x .store) (x .tables) img (λ n. (refl, refl))
     (λ l i. (refl, ranged-of (length (x .store)) _ (image-sound (length (x .store)) img i) .0 ∙ sym (right-length (x .store) (x .tables) l)))
-keeps-lengths (on u e r) x = ⊎-elim
+keeps-lengths (on u e r) x = lengths-of (on u e r) x refl
     (λ ok. (request-store-length r (x .store) (x .tables) u e ok, request-tables-length r (x .store) (x .tables) u e ok ∙ sym (ranged-of (length (x .store)) (x .tables) ok .0)))
-    (λ unsound. subst (λ (o : Outcome Lent). SameLengths x (o .after)) (sym (refuses-unsound (on u e r) x refl unsound)) (refl, refl))
-    (split-bool (soundLent (x .store) (x .tables)))
+keeps-lengths (runs u e r) x = lengths-of (runs u e r) x refl (λ ok. (run-kept u e x r ok .storeLength, run-kept u e x r ok .tablesLength))
 
 -- ---- "cells beyond are never touched"
 
@@ -67,6 +76,7 @@ keeps-beyond (starts fresh) x ok k l = ap (λ (s : List ℕ). getD s k 0) (fresh
 keeps-beyond (asks q) x ok k l = refl
 keeps-beyond (starts (load img)) x ok k l = ap (λ (s : List ℕ). getD s k 0) (load-keeps-store (x .store) (x .tables) img)
 keeps-beyond (on u e r) x ok k l = request-beyond r (x .store) (x .tables) u e ok k l
+keeps-beyond (runs u e r) x ok k l = run-kept u e x r ok .beyond k l
 
 -- ---- over histories
 

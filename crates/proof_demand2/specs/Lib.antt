@@ -2,4 +2,5 @@
 pub mod Calls
 pub mod Freed
 pub mod Saves
+pub mod Runs
 pub mod Demand2

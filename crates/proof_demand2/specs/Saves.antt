@@ -11,6 +11,7 @@ use Rattle.combine.specs.Outcome.{Outcome, settle}
 use Rattle.rules.specs.Calls.{save, asks}
 use Rattle.rules.specs.Gates.{startGate, imageGate}
 use Rattle.rules.specs.House.{closedDown}
+use Rattle.rules.specs.Runs.{noRun}
 use Rattle.segments.specs.Free.{SegmentHouse}
 use Rattle.tables.specs.laws.Sound.{ranged-of}
 use Rattle.image.specs.Image.{form1, imageLength, imageOf, tablesFrom}
@@ -25,10 +26,10 @@ use Rattle.proof_images.specs.Done.{saved-again, saved-sound}
 
 -- what is told of a save, and what users know afterwards: on cells, and in the model
 abbrev cellsSaid : List ℕ → List ℕ → List ℕ → Outcome Saved → Report × Model
-cellsSaid s t img o = (report (asks (save img)) (o .answer) (filesIn s (o .after .image)), view s t)
+cellsSaid s t img o = (report (asks (save img)) (o .answer) (filesIn s (o .after .image)) noRun, view s t)
 
 abbrev modelSaid : List ℕ → List ℕ → List ℕ → Said → Report × Model
-modelSaid s t img a = (report (asks (save img)) a (some (closedDown (viewHouse s (houseOf t)))), view s t)
+modelSaid s t img a = (report (asks (save img)) a (some (closedDown (viewHouse s (houseOf t)))) noRun, view s t)
 
 module _ (s t : List ℕ) (sound : soundLent s t ≡ true) where
   -- whatever a save writes is sound, and holds the permanent files
@@ -43,7 +44,7 @@ module _ (s t : List ℕ) (sound : soundLent s t ≡ true) where
       → cellsSaid s t img (settle (saved s t img) (imageGate true b (done (0, saved s t (imageOf form1 t)))))
       ≡ modelSaid s t img (imageGate true b (done 0))
   unfolding imageGate startGate settle refuse_when_else_
-  save-told img true = λ i. (record { answer = done 0; image = saved-files i }, view s t)
+  save-told img true = λ i. (record { answer = done 0; image = saved-files i; run = noRun }, view s t)
   save-told img false = refl
 
 pub save-refines : (img : List ℕ) (x : Lent) → Sound x → Refines (asks (save img)) x

@@ -76,7 +76,7 @@ gate-another i m u e v w h t = go (ltb 7 u) (ltb 3 e) h t
 
 -- ---- the request
 
-entries-apart : (u e v d : ℕ) → e ≤ 3 → T (not (eqb u v && eqb e d)) → T (not (ltb 3 d)) → entryOf v d ≢ entryOf u e
+pub entries-apart : (u e v d : ℕ) → e ≤ 3 → T (not (eqb u v && eqb e d)) → T (not (ltb 3 d)) → entryOf v d ≢ entryOf u e
 entries-apart u e v d le h hd q =
     let ld : d ≤ 3 = nltb→le 3 d hd in
     T-not (eqb u v && eqb e d) h (and-intro (eqb u v) (eqb e d) (test u v (omega arith)) (test e d (omega arith)))

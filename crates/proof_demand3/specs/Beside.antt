@@ -12,21 +12,22 @@ use Rattle.combine.specs.Outcome.{Outcome}
 use Rattle.placing.specs.Sizes.{entryOf}
 use Rattle.image.specs.Image.{form1, imageb, tablesFrom}
 use Rattle.cells.specs.Says.{houseOf}
-use Rattle.rules.specs.Calls.{Request, abandons, Call, on}
+use Rattle.rules.specs.Calls.{Request, abandons, Run, Call, on, runs}
 use Rattle.rules.specs.Headings.{isSome}
 use Rattle.rules.specs.House.{closedDown}
 use Rattle.cells.specs.Outcomes.{Lent}
 use Rattle.model.specs.Model.{Files, Model}
-use Rattle.model.specs.Step.{Report, report, step, stepTold}
+use Rattle.model.specs.Step.{Report, report, step, stepRun, stepTold}
 use Rattle.model.specs.View.{viewHouse, view, filesIn}
 use Rattle.proof_calls_sound.specs.Keeps.{keeps-sound}
 use Rattle.demands.specs.History.{outcomeOn, afterCall, toldOf, viewOn}
 use Rattle.demands.specs.Demands.{Sound}
-use Rattle.demands.specs.Abandoning.{isOn, ending, quiet, isLoad}
+use Rattle.demands.specs.Abandoning.{isOn, ending, answeredAs, quiet, isLoad}
 use Rattle.proof_demand2.specs.Demand2.{told-known, answer-known, after-known}
 use Rattle.proof_demand3.specs.Eased.{emptied}
 use Rattle.proof_demand3.specs.Own.{request-own, abandoned}
-use Rattle.proof_demand3.specs.Steps.{SameLook, ToldAlike, Carried, step-another, step-alike}
+use Rattle.proof_demand3.specs.Runs.{run-own}
+use Rattle.proof_demand3.specs.Steps.{SameLook, answeredIn, ToldAlike, Carried, step-another, step-alike}
 
 -- whether an image is sound is seen by the store's length
 look-length : (s : List ℕ) (img : List ℕ) → isSome (filesIn s img) ≡ imageb form1 (length s) img
@@ -61,9 +62,10 @@ module _ (u e : ℕ) (x y : Lent) (b : Beside (entryOf u e) x y) where
 
   -- a call that is not the user's by the entry, and quiet: the cells afterwards are beside each other, and the same is told, but for the
   -- numbers of counts
-  module _ (c : Call) (le : e ≤ 3) (other : isOn u e c ≡ false) (q : T (quiet u e c (outcomeOn c x .answer))) where
+  module _ (c : Call) (le : e ≤ 3) (other : isOn u e c ≡ false) (q : T (quiet u e c (answeredAs c x))) where
     carries : Carried i c (filesIn (x .store)) (filesIn (y .store)) (viewOn x)
-    carries = step-another u e (filesIn (x .store)) (filesIn (y .store)) (viewOn x) c le looks other (subst (λ (a : Said). T (quiet u e c a)) (answer-known c x (b .with)) q)
+    carries =
+        step-another u e (filesIn (x .store)) (filesIn (y .store)) (viewOn x) c le looks other (subst (λ (r : Report). T (quiet u e c (answeredIn r))) (told-known c x (b .with)) q)
 
     pub another-beside : Beside i (afterCall c x) (afterCall c y)
     another-beside = record {
@@ -87,6 +89,14 @@ module _ (u e : ℕ) (x y : Lent) (b : Beside (entryOf u e) x y) where
         ∙ sym (ap (emptied i) (after-known (on u e r) x (b .with)));
   }
 
+  -- a run by the entry
+  pub own-run-beside : (r : Run) → Beside i (afterCall (runs u e r) x) y
+  own-run-beside r = record {
+    with = keeps-sound (runs u e r) x (b .with);
+    without = b .without;
+    seen = b .seen ∙ sym (run-own u e (viewOn x) r) ∙ sym (ap (emptied i) (after-known (runs u e r) x (b .with)));
+  }
+
   -- the abandonment
   pub abandoned-seen : T (not (ltb 7 u)) → T (not (ltb 3 e)) → viewOn (afterCall (on u e abandons) x) ≡ viewOn y
   abandoned-seen hu he = after-known (on u e abandons) x (b .with) ∙ abandoned u e (viewOn x) hu he ∙ sym (b .seen)
@@ -101,7 +111,7 @@ module _ (x y : Lent) (sx : Sound x) (sy : Sound y) (seen : viewOn x ≡ viewOn 
 
   pub later-told : toldOf c x ≡ toldOf c y
   later-told =
-      told-known c x sx ∙ sym (ap (λ (o : Outcome Model). report c (o .answer) (some (closedDown (viewOn x .house)))) alike)
+      told-known c x sx ∙ sym (ap (λ (o : Outcome Model). report c (o .answer) (some (closedDown (viewOn x .house))) (stepRun c (viewOn x))) alike)
       ∙ ap (stepTold (filesIn (y .store)) c) seen ∙ sym (told-known c y sy)
 
   pub later-seen : viewOn (afterCall c x) ≡ viewOn (afterCall c y)

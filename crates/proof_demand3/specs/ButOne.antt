@@ -1,13 +1,14 @@
 -- The premises of demand 3 but one: what a story meets that shows the one to be needed. Assumes nothing.
 use Prim.Native.Nat.{ℕ}
-use mathlib.Core.Bool.{Bool, true, false, not, _&&_, _||_}
+use mathlib.Core.Bool.{Bool, true, false, not, _&&_, _||_, cond}
 use mathlib.Core.List.{List, [], _∷_, _++_}
 use lib.Dec.{T, eqb}
 use Rattle.combine.specs.Verdict.{Said, done, refused, isDone}
+use Rattle.combine.specs.laws.Tests.{and-intro}
 use Rattle.rules.specs.Calls.{Call}
-use Rattle.cells.specs.Outcomes.{Lent}
+use Rattle.cells.specs.Outcomes.{Lent, callRun}
 use Rattle.demands.specs.History.{outcomeOn, afterCall, final}
-use Rattle.demands.specs.Abandoning.{isOn, ends, crowded, quiet, Quiet, NoLoad, Story, openingCall, abandoning, Abandoned}
+use Rattle.demands.specs.Abandoning.{isOn, ends, crowded, answeredAs, quiet, Quiet, NoLoad, Story, openingCall, abandoning, Abandoned}
 
 -- ---- but that other calls between may be answered n: 9, "no room", or 14, "not now"
 
@@ -20,7 +21,7 @@ quietBut n u e c a = refusedFor n a || quiet u e c a
 
 abbrev pub QuietBut : ℕ → ℕ → ℕ → List Call → Lent → Type 0
 QuietBut n u e [] x = Unit {0}
-QuietBut n u e (c ∷ cs) x = T (quietBut n u e c (outcomeOn c x .answer)) × QuietBut n u e cs (afterCall c x)
+QuietBut n u e (c ∷ cs) x = T (quietBut n u e c (answeredAs c x)) × QuietBut n u e cs (afterCall c x)
 
 pub record AbandonedBut (n : ℕ) (h : Story) (x : Lent) : Type 0 where
   pub opened : T (isDone (outcomeOn (openingCall h) (final (h .before) x) .answer))
@@ -30,7 +31,7 @@ pub record AbandonedBut (n : ℕ) (h : Story) (x : Lent) : Type 0 where
 -- the premise left out: no call but the user's on the entry is answered n
 abbrev pub NoneAnswered : ℕ → ℕ → ℕ → List Call → Lent → Type 0
 NoneAnswered n u e [] x = Unit {0}
-NoneAnswered n u e (c ∷ cs) x = T (isOn u e c || not (refusedFor n (outcomeOn c x .answer))) × NoneAnswered n u e cs (afterCall c x)
+NoneAnswered n u e (c ∷ cs) x = T (isOn u e c || not (refusedFor n (answeredAs c x))) × NoneAnswered n u e cs (afterCall c x)
 
 quiet-with : (n u e : ℕ) (c : Call) (a : Said) → T (quietBut n u e c a) → T (isOn u e c || not (refusedFor n a)) → T (quiet u e c a)
 quiet-with n u e c (done m) q t = q
@@ -45,12 +46,49 @@ quiet-with n u e c (refused m) q t = go (eqb m n) (isOn u e c) (ends u e c) q t
 
 quietly-with : (n u e : ℕ) (cs : List Call) (x : Lent) → QuietBut n u e cs x → NoneAnswered n u e cs x → Quiet u e cs x
 quietly-with n u e [] x q t = tt
-quietly-with n u e (c ∷ cs) x q t = (quiet-with n u e c (outcomeOn c x .answer) (q .0) (t .0), quietly-with n u e cs (afterCall c x) (q .1) (t .1))
+quietly-with n u e (c ∷ cs) x q t = (quiet-with n u e c (answeredAs c x) (q .0) (t .0), quietly-with n u e cs (afterCall c x) (q .1) (t .1))
 
 -- with it, these are the premises of demand 3
 pub with-none-answered : (n : ℕ) (h : Story) (x : Lent) → AbandonedBut n h x
     → NoneAnswered n (h .user) (h .entry) (h .between) (afterCall (openingCall h) (final (h .before) x)) → Abandoned h x
 with-none-answered n h x a t = record { opened = a .opened; quietly = quietly-with n (h .user) (h .entry) (h .between) _ (a .quietly) t; noLoad = a .noLoad }
+
+-- ---- but that a run is taken for what it is answered: what stops it after some elements is not seen
+
+abbrev pub QuietByAnswer : ℕ → ℕ → List Call → Lent → Type 0
+QuietByAnswer u e [] x = Unit {0}
+QuietByAnswer u e (c ∷ cs) x = T (quiet u e c (outcomeOn c x .answer)) × QuietByAnswer u e cs (afterCall c x)
+
+pub record AbandonedByAnswer (h : Story) (x : Lent) : Type 0 where
+  pub opened : T (isDone (outcomeOn (openingCall h) (final (h .before) x) .answer))
+  pub quietly : QuietByAnswer (h .user) (h .entry) (h .between) (afterCall (openingCall h) (final (h .before) x))
+  pub noLoad : NoLoad (h .later) (final (h .before ++ openingCall h ∷ (h .between ++ abandoning h ∷ [])) x)
+
+-- the premise left out: no run but the user's on the entry is stopped by 9 or 14
+abbrev pub NoneStopped : ℕ → ℕ → List Call → Lent → Type 0
+NoneStopped u e [] x = Unit {0}
+NoneStopped u e (c ∷ cs) x = T (isOn u e c || not (crowded (refused (callRun c (x .store) (x .tables) .stop)))) × NoneStopped u e cs (afterCall c x)
+
+quiet-unstopped : (u e : ℕ) (c : Call) (a : Said) (n : ℕ) → T (quiet u e c a) → T (isOn u e c || not (crowded (refused n))) → T (quiet u e c (cond (eqb n 0) a (refused n)))
+quiet-unstopped u e c a n q t = go (eqb n 0)
+  where
+    never : (b : Bool) → T (not (b && false))
+    never true = tt
+    never false = tt
+
+    go : (unstopped : Bool) → T (quiet u e c (cond unstopped a (refused n)))
+    go true = q
+    go false = and-intro (not (ends u e c && false)) (isOn u e c || not (crowded (refused n))) (never (ends u e c)) t
+
+quietly-unstopped : (u e : ℕ) (cs : List Call) (x : Lent) → QuietByAnswer u e cs x → NoneStopped u e cs x → Quiet u e cs x
+quietly-unstopped u e [] x q t = tt
+quietly-unstopped u e (c ∷ cs) x q t = (
+  quiet-unstopped u e c (outcomeOn c x .answer) (callRun c (x .store) (x .tables) .stop) (q .0) (t .0),
+  quietly-unstopped u e cs (afterCall c x) (q .1) (t .1),
+)
+
+pub with-none-stopped : (h : Story) (x : Lent) → AbandonedByAnswer h x → NoneStopped (h .user) (h .entry) (h .between) (afterCall (openingCall h) (final (h .before) x)) → Abandoned h x
+with-none-stopped h x a t = record { opened = a .opened; quietly = quietly-unstopped (h .user) (h .entry) (h .between) _ (a .quietly) t; noLoad = a .noLoad }
 
 -- ---- but that an image may be loaded after the abandonment
 

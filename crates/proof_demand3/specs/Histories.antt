@@ -8,16 +8,16 @@ use lib.Dec.{T, ltb, eqb, eqb→eq, nltb→le}
 use Rattle.combine.specs.laws.Below.{not-both}
 use Rattle.combine.specs.Verdict.{isDone}
 use Rattle.placing.specs.Sizes.{entryOf}
-use Rattle.rules.specs.Calls.{Request, abandons, Call, starts, asks, on}
+use Rattle.rules.specs.Calls.{Request, abandons, Run, Call, starts, asks, on, runs}
 use Rattle.cells.specs.Outcomes.{Lent}
 use Rattle.model.specs.Step.{Report}
 use Rattle.proof_calls_sound.specs.Keeps.{keeps-sound}
 use Rattle.combine.specs.laws.Tests.{and-first, and-second}
 use Rattle.demands.specs.History.{outcomeOn, afterCall, toldOf, viewOn, toldAll, final}
 use Rattle.demands.specs.Demands.{Sound}
-use Rattle.demands.specs.Abandoning.{isOn, ending, quiet, Quiet, NoLoad, Fate, remains, counts, struck, isCount, leftFate, betweenFate, strike, heard, allStay}
+use Rattle.demands.specs.Abandoning.{isOn, ending, answeredAs, quiet, Quiet, NoLoad, Fate, remains, counts, struck, isCount, leftFate, betweenFate, strike, heard, allStay}
 use Rattle.proof_demand3.specs.Steps.{ToldAlike, goes-on}
-use Rattle.proof_demand3.specs.Beside.{Beside, another-beside, another-told, own-beside, abandoned-seen, later-told, later-seen}
+use Rattle.proof_demand3.specs.Beside.{Beside, another-beside, another-told, own-beside, own-run-beside, abandoned-seen, later-told, later-seen}
 
 -- ---- after the abandonment users know the same
 
@@ -41,13 +41,20 @@ own-at u e v d x y r b p q t =
     (subst (λ (w : ℕ). T (not (ending r && isDone (outcomeOn (on u w r) x .answer))) → Beside (entryOf u e) (afterCall (on u w r) x) y) q
     (own-beside u e x y b r)) t
 
-own-call : (u e : ℕ) (x y : Lent) (c : Call) → Beside (entryOf u e) x y → isOn u e c ≡ true → T (quiet u e c (outcomeOn c x .answer)) → Beside (entryOf u e) (afterCall c x) y
+own-run-at : (u e v d : ℕ) (x y : Lent) (r : Run) → Beside (entryOf u e) x y → u ≡ v → e ≡ d → Beside (entryOf u e) (afterCall (runs v d r) x) y
+own-run-at u e v d x y r b p q =
+    subst (λ (w : ℕ). Beside (entryOf u e) (afterCall (runs w d r) x) y) p (subst (λ (w : ℕ). Beside (entryOf u e) (afterCall (runs u w r) x) y) q (own-run-beside u e x y b r))
+
+own-call : (u e : ℕ) (x y : Lent) (c : Call) → Beside (entryOf u e) x y → isOn u e c ≡ true → T (quiet u e c (answeredAs c x)) → Beside (entryOf u e) (afterCall c x) y
 own-call u e x y (starts c) b o q = absurd (not-both o refl)
 own-call u e x y (asks c) b o q = absurd (not-both o refl)
 own-call u e x y (on v d r) b o q =
     let t : T (eqb u v && eqb e d) = rw o tt in
     let going : T (not (((eqb u v && eqb e d) && ending r) && isDone (outcomeOn (on v d r) x .answer))) = goes-on u e (on v d r) (outcomeOn (on v d r) x .answer) q in
     own-at u e v d x y r b (eqb→eq u v (and-first (eqb u v) (eqb e d) t)) (eqb→eq e d (and-second (eqb u v) (eqb e d) t)) (rw o at going)
+own-call u e x y (runs v d r) b o q =
+    let t : T (eqb u v && eqb e d) = rw o tt in
+    own-run-at u e v d x y r b (eqb→eq u v (and-first (eqb u v) (eqb e d) t)) (eqb→eq e d (and-second (eqb u v) (eqb e d) t))
 
 -- ---- the calls between, with the abandonment and the calls after
 
@@ -72,7 +79,7 @@ module _ (u e : ℕ) (user : T (not (ltb 7 u))) (entry : T (not (ltb 3 e))) (lat
   withoutFates cs = map leftFate cs ++ allStay later
 
   -- c before cs: `own` says that it is struck out
-  one-more : (c : Call) (cs ds : List Call) (x y : Lent) (own : Bool) → isOn u e c ≡ own → Beside (entryOf u e) x y → T (quiet u e c (outcomeOn c x .answer))
+  one-more : (c : Call) (cs ds : List Call) (x y : Lent) (own : Bool) → isOn u e c ≡ own → Beside (entryOf u e) x y → T (quiet u e c (answeredAs c x))
       → ((z : Lent) → Beside (entryOf u e) (afterCall c x) z → Alike (withIt cs) (ds ++ later) (afterCall c x) z (withFates cs) (withoutFates ds))
       → Alike (c ∷ withIt cs) (cond own ds (c ∷ ds) ++ later) x y (cond own struck (leftFate c) ∷ withFates cs) (withoutFates (cond own ds (c ∷ ds)))
   one-more c cs ds x y true o b q h =

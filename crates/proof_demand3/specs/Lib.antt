@@ -3,6 +3,7 @@ pub mod Eased
 pub mod Calm
 pub mod Another
 pub mod Own
+pub mod Runs
 pub mod Steps
 pub mod Beside
 pub mod Histories
@@ -14,5 +15,6 @@ pub mod Told
 pub mod ButOne
 pub mod Needed9
 pub mod Needed14
+pub mod NeededRun
 pub mod SavedImage
 pub mod NeededLoad

@@ -2,7 +2,6 @@
 -- keep their cells"; user 0 opens a new file, which takes that segment, writes 99 and abandons; the saved image is loaded, and the file read: 99.
 -- Without the opening it is 10. Assumes nothing.
 use Prim.Native.Nat.{ℕ}
-use native.Mathlib.Omega.{arith}
 use mathlib.Core.Path.{_≡_, refl, sym, ap, _∙_, subst}
 use mathlib.Core.Bool.{true, false}
 use mathlib.Core.List.{List, [], _∷_, _++_}
@@ -28,7 +27,7 @@ use Rattle.demands.specs.Abandoning.{quiet, Story, openingCall, abandoning, NoT
 use Rattle.proof_examples.specs.Fresh.{nothingThere}
 use Rattle.proof_examples.specs.Known.{answersKnown}
 use Rattle.proof_demand3.specs.Started.{startedOver, started-sound, started-state}
-use Rattle.proof_demand3.specs.Answers.{answers-started, Passed, answered-otherwise}
+use Rattle.proof_demand3.specs.Answers.{answers-started, Passed, answered-otherwise, numbers-differ}
 use Rattle.proof_demand3.specs.ButOne.{AbandonedThenLoaded}
 use Rattle.examples.specs.Examples.{answersOn, bytesOfA, makesFileA, imageWithA}
 use Rattle.proof_examples.specs.OnSegments.{stateAfter, goesOn, state-known}
@@ -118,14 +117,7 @@ first-without = refl
 
 trace : NoTrace takesTheFreedSegment (startedOver 8192) → ⊥
 trace = answered-otherwise takesTheFreedSegment (startedOver 8192) 10 (done 99) (done 10)
-    (after-calls lived tt 99 first-with) (after-calls (takesTheFreedSegment .before) tt 10 first-without) (λ e. different (ap number e))
-  where
-    number : Said → ℕ
-    number (refused n) = n
-    number (done n) = n
-
-    different : _≡_ {A = ℕ} 99 10 → ⊥
-    different e = omega arith
+    (after-calls lived tt 99 first-with) (after-calls (takesTheFreedSegment .before) tt 10 first-without) (numbers-differ 99 10 tt)
 
 pub needs-no-load : AbandonedThenLoaded takesTheFreedSegment (startedOver 8192) × (NoTrace takesTheFreedSegment (startedOver 8192) → ⊥)
 needs-no-load = (other-premises, trace)

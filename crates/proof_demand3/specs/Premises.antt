@@ -8,13 +8,14 @@ use Rattle.combine.specs.Verdict.{Said, isDone}
 use Rattle.rules.specs.Calls.{Call}
 use Rattle.cells.specs.Outcomes.{Lent}
 use Rattle.model.specs.Model.{Model}
-use Rattle.model.specs.Step.{step}
+use Rattle.model.specs.Step.{Report, step, stepTold}
 use Rattle.proof_calls_sound.specs.Keeps.{keeps-sound}
 use Rattle.combine.specs.laws.Tests.{and-first, and-second}
 use Rattle.demands.specs.History.{afterCall, viewOn, final}
 use Rattle.demands.specs.Demands.{Sound}
 use Rattle.demands.specs.Abandoning.{quiet, Quiet, isLoad, NoLoad, Story, openingCall, Abandoned}
-use Rattle.proof_examples.specs.Known.{blind, noLoadb, answer-blind, after-blind}
+use Rattle.proof_examples.specs.Known.{blind, noLoadb, told-blind, answer-blind, after-blind}
+use Rattle.proof_demand3.specs.Steps.{answeredIn}
 
 abbrev pub knownAfter : List Call → Model → Model
 knownAfter [] m = m
@@ -22,7 +23,7 @@ knownAfter (c ∷ cs) m = knownAfter cs (step blind c m .after)
 
 abbrev pub quietb : ℕ → ℕ → List Call → Model → Bool
 quietb u e [] m = true
-quietb u e (c ∷ cs) m = quiet u e c (step blind c m .answer) && quietb u e cs (step blind c m .after)
+quietb u e (c ∷ cs) m = quiet u e c (answeredIn (stepTold blind c m)) && quietb u e cs (step blind c m .after)
 
 -- ---- histories
 
@@ -37,9 +38,9 @@ quiet-known : (u e : ℕ) (cs : List Call) (x : Lent) → Sound x → T (noLoadb
 quiet-known u e [] x s n q = tt
 quiet-known u e (c ∷ cs) x s n q =
     let one = and-first (not (isLoad c)) (noLoadb cs) n in
-    let a = step blind c (viewOn x) .answer in
+    let a = answeredIn (stepTold blind c (viewOn x)) in
     let m = step blind c (viewOn x) .after in (
-      subst (λ (b : Said). T (quiet u e c b)) (sym (answer-blind c x s one)) (and-first (quiet u e c a) (quietb u e cs m) q),
+      subst (λ (r : Report). T (quiet u e c (answeredIn r))) (sym (told-blind c x s one)) (and-first (quiet u e c a) (quietb u e cs m) q),
       quiet-known u e cs (afterCall c x) (keeps-sound c x s) (and-second (not (isLoad c)) (noLoadb cs) n)
           (subst (λ (k : Model). T (quietb u e cs k)) (sym (after-blind c x s one)) (and-second (quiet u e c a) (quietb u e cs m) q)),
     )

@@ -1,26 +1,30 @@
 -- Any call that is not the user's by the entry, beside the same call where the entry is emptied; and a call where only the store differs in
 -- what freed segments were left with. Assumes nothing.
 use Prim.Native.Nat.{ℕ, _≤_}
-use mathlib.Core.Path.{_≡_, refl, sym, ap, _∙_}
+use mathlib.Core.Path.{_≡_, refl, sym, ap, _∙_, subst}
 use mathlib.Core.Logic.{_⊎_, inl, inr}
-use mathlib.Core.Bool.{Bool, true, false, not, _&&_, _||_}
+use mathlib.Core.Bool.{Bool, true, false, not, _&&_, _||_, cond}
 use mathlib.Core.Option.{Option, none, some}
 use mathlib.Core.List.{List}
-use lib.Dec.{T, ltb, leb}
+use borrow.Author.Tests.{eqb-true}
+use lib.Dec.{T, ltb, leb, eqb}
 use Rattle.combine.specs.laws.Below.{not-both}
-use Rattle.combine.specs.Verdict.{Said, done, isDone, refuse_when_else_}
+use Rattle.combine.specs.Verdict.{Said, done, refused, isDone, refuse_when_else_}
 use Rattle.combine.specs.Outcome.{Outcome, outcomeOf, settle}
+use Rattle.combine.specs.Run.{Ran}
 use Rattle.placing.specs.Sizes.{greatestUser, entryOf}
-use Rattle.rules.specs.Calls.{fresh, load, save, count, Call, starts, asks, on}
+use Rattle.rules.specs.Calls.{fresh, load, save, count, Run, writes, fills, Call, starts, asks, on, runs}
 use Rattle.rules.specs.Headings.{isSome}
 use Rattle.rules.specs.Gates.{userGate, startGate, imageGate}
 use Rattle.rules.specs.House.{closedDown}
+use Rattle.rules.specs.Runs.{runAnswer, runTold, noRun}
 use Rattle.model.specs.Model.{Files, Model, free}
-use Rattle.model.specs.Step.{Report, report, askModel, step, stepTold}
+use Rattle.model.specs.Step.{Report, report, askModel, runOnModel, step, stepRun, stepTold}
 use Rattle.demands.specs.Abandoning.{isOn, ends, crowded, quiet, isLoad, isCount}
 use Rattle.combine.specs.laws.Tests.{and-first, and-second}
 use Rattle.proof_demand3.specs.Eased.{emptied}
 use Rattle.proof_demand3.specs.Another.{carried, request-another}
+use Rattle.proof_demand3.specs.Runs.{carriedRun, run-another}
 
 -- what lent images hold
 abbrev pub Look : Type 0
@@ -55,6 +59,18 @@ load-alike f g h m n o img same t =
 
 -- ---- a call that is not the user's by the entry
 
+-- what `answeredAs` gives, by what is told of the call
+abbrev pub answeredIn : Report → Said
+answeredIn r = cond (eqb (r .run .stop) 0) (r .answer) (refused (r .run .stop))
+
+-- what is not answered 9 or 14 in this sense is not stopped by them; a stop of 0 is no refusal
+unstopped : (r : Report) → T (not (crowded (answeredIn r))) → T (not (crowded (refused (r .run .stop))))
+unstopped r t = go (eqb (r .run .stop) 0) refl t
+  where
+    go : (b : Bool) → eqb (r .run .stop) 0 ≡ b → T (not (crowded (cond b (r .answer) (refused (r .run .stop))))) → T (not (crowded (refused (r .run .stop))))
+    go true p t = subst (λ (n : ℕ). T (not (crowded (refused n)))) (sym (eqb-true (r .run .stop) 0 p)) tt
+    go false p t = t
+
 pub goes-on : (u e : ℕ) (c : Call) (a : Said) → T (quiet u e c a) → T (not (ends u e c && isDone a))
 goes-on u e c a q = and-first (not (ends u e c && isDone a)) (isOn u e c || not (crowded a)) q
 
@@ -70,12 +86,12 @@ abbrev pub ToldAlike : Call → Report → Report → Type 0
 ToldAlike c a b = (a ≡ b) ⊎ ((isCount c ≡ true) × (isDone (a .answer) ≡ true) × (isDone (b .answer) ≡ true))
 
 -- a count of an unknown user is refused, whatever is free
-count-told : (u : ℕ) (m n : Model) → ToldAlike (asks (count u)) (record { answer = askModel (count u) m; image = none }) (record { answer = askModel (count u) n; image = none })
+count-told : (u : ℕ) (m n : Model) → ToldAlike (asks (count u)) (record { answer = askModel (count u) m; image = none; run = noRun }) (record { answer = askModel (count u) n; image = none; run = noRun })
 unfolding userGate refuse_when_else_
 count-told u m n = go (ltb greatestUser u)
   where
     told : Bool → ℕ → Report
-    told b k = record { answer = refuse 1 when b else done k; image = none }
+    told b k = record { answer = refuse 1 when b else done k; image = none; run = noRun }
 
     go : (b : Bool) → ToldAlike (asks (count u)) (told b (free (m .house))) (told b (free (n .house)))
     go true = inl refl
@@ -86,22 +102,33 @@ pub record Carried (i : ℕ) (c : Call) (f g : Look) (m : Model) : Type 0 where
   pub after : step g c (emptied i m) .after ≡ emptied i (step f c m .after)
   pub told : ToldAlike c (stepTold f c m) (stepTold g c (emptied i m))
 
-whole-carried : (i : ℕ) (c : Call) (f g : Look) (m : Model) → step g c (emptied i m) ≡ carried i (step f c m) → Carried i c f g m
-whole-carried i c f g m e = record {
+whole-carried : (i : ℕ) (c : Call) (f g : Look) (m : Model) → step g c (emptied i m) ≡ carried i (step f c m) → stepRun c (emptied i m) ≡ stepRun c m → Carried i c f g m
+whole-carried i c f g m e same = record {
   after = ap (λ (o : Outcome Model). o .after) e;
-  told = inl (sym (ap (λ (o : Outcome Model). report c (o .answer) (some (closedDown (m .house)))) e));
+  told = inl (sym (λ k. report c (e k .answer) (some (closedDown (m .house))) (same k)));
 }
 
-pub step-another : (u e : ℕ) (f g : Look) (m : Model) (c : Call) → e ≤ 3 → SameLook f g → isOn u e c ≡ false → T (quiet u e c (step f c m .answer)) → Carried (entryOf u e) c f g m
+run-carried : (i v d : ℕ) (r : Run) (f g : Look) (m : Model) → runOnModel r v d (emptied i m) ≡ carriedRun i (runOnModel r v d m) → Carried i (runs v d r) f g m
+run-carried i v d r f g m e = whole-carried i (runs v d r) f g m (ap (λ (q : Ran Model). outcomeOf (runAnswer q) (q .after)) e) (go r e)
+  where
+    go : (r : Run) → runOnModel r v d (emptied i m) ≡ carriedRun i (runOnModel r v d m) → stepRun (runs v d r) (emptied i m) ≡ stepRun (runs v d r) m
+    go (writes p l) e = ap (runTold (writes p l)) e
+    go (fills p l) e = ap (runTold (fills p l)) e
+
+pub step-another : (u e : ℕ) (f g : Look) (m : Model) (c : Call) → e ≤ 3 → SameLook f g → isOn u e c ≡ false → T (quiet u e c (answeredIn (stepTold f c m)))
+    → Carried (entryOf u e) c f g m
 step-another u e f g m (starts fresh) le same other q =
-    whole-carried (entryOf u e) (starts fresh) f g m (fresh-refused m _ (entryOf u e) (leb 64 (m .cells)) (goes-on u e (starts fresh) (step f (starts fresh) m .answer) q))
+    whole-carried (entryOf u e) (starts fresh) f g m (fresh-refused m _ (entryOf u e) (leb 64 (m .cells)) (goes-on u e (starts fresh) (step f (starts fresh) m .answer) q)) refl
 step-another u e f g m (starts (load img)) le same other q =
     whole-carried (entryOf u e) (starts (load img)) f g m
-    (load-alike f g (emptied (entryOf u e)) m _ _ img same (goes-on u e (starts (load img)) (step f (starts (load img)) m .answer) q))
-step-another u e f g m (asks (save img)) le same other q = whole-carried (entryOf u e) (asks (save img)) f g m refl
+    (load-alike f g (emptied (entryOf u e)) m _ _ img same (goes-on u e (starts (load img)) (step f (starts (load img)) m .answer) q)) refl
+step-another u e f g m (asks (save img)) le same other q = whole-carried (entryOf u e) (asks (save img)) f g m refl refl
 step-another u e f g m (asks (count v)) le same other q = record { after = refl; told = count-told v m (emptied (entryOf u e) m) }
 step-another u e f g m (on v d r) le same other q =
-    whole-carried (entryOf u e) (on v d r) f g m (request-another u e m v d r le (rw other tt) (uncrowded u e (on v d r) (step f (on v d r) m .answer) other q))
+    whole-carried (entryOf u e) (on v d r) f g m (request-another u e m v d r le (rw other tt) (uncrowded u e (on v d r) (step f (on v d r) m .answer) other q)) refl
+step-another u e f g m (runs v d r) le same other q =
+    run-carried (entryOf u e) v d r f g m
+    (run-another u e v d le (rw other tt) r m (unstopped (stepTold f (runs v d r) m) (uncrowded u e (runs v d r) (answeredIn (stepTold f (runs v d r) m)) other q)))
 
 -- ---- a call on the same state, beside another store
 
@@ -110,3 +137,4 @@ step-alike f g m (starts fresh) same q = refl
 step-alike f g m (starts (load img)) same q = load-alike f g (λ n. n) m _ _ img same q
 step-alike f g m (asks q) same n = refl
 step-alike f g m (on u e r) same q = refl
+step-alike f g m (runs u e r) same q = refl

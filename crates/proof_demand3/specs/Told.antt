@@ -1,5 +1,6 @@
 -- A story to which demand 3 is applied: user 2's file of 64 elements is opened for work, its first element is replaced (the record's segment is
--- copied), an append begins another stretch, and it is renamed, while user 3 makes and closes a file; then it is abandoned. Assumes nothing.
+-- copied), a run of appends begins another stretch, and it is renamed, while user 3 makes a file, writes a run there and closes it; then it is
+-- abandoned, and the files are read, user 3's by a run that comes to its end. Assumes nothing.
 use Prim.Native.Nat.{ℕ}
 use mathlib.Core.Path.{_≡_, refl, sym, subst}
 use mathlib.Core.Bool.{true, false}
@@ -8,7 +9,7 @@ use lib.Dec.{T}
 use lib.ListN.{length, replicate}
 use Rattle.combine.specs.Verdict.{isDone}
 use Rattle.placing.specs.Sizes.{tablesLength}
-use Rattle.rules.specs.Calls.{new, work, read, rename, write, next, opens, closes, uses, fresh, count, Call, starts, asks, on}
+use Rattle.rules.specs.Calls.{new, work, read, rename, write, next, opens, closes, uses, fresh, count, writes, fills, Call, starts, asks, on, runs}
 use Rattle.cells.specs.Outcomes.{lent}
 use Rattle.model.specs.Model.{Model}
 use Rattle.model.specs.Step.{step}
@@ -37,9 +38,9 @@ storyAfter before = record {
   user = 2;
   entry = 0;
   way = work fileA;
-  between = on 2 0 (uses (write 2 99)) ∷ on 3 1 (opens (new 3)) ∷ on 2 0 (uses (write 1 7)) ∷ on 3 1 (uses (write 1 6)) ∷ asks (count 3)
-      ∷ on 2 0 (uses (rename (98 ∷ []))) ∷ on 3 1 (uses (rename fileC)) ∷ on 3 1 (closes true) ∷ [];
-  later = on 2 1 (opens (read fileA)) ∷ on 2 1 (uses (next 2)) ∷ on 2 0 (opens (read fileC)) ∷ on 2 0 (uses (next 2)) ∷ asks (count 2) ∷ [];
+  between = on 2 0 (uses (write 2 99)) ∷ on 3 1 (opens (new 3)) ∷ runs 2 0 (writes 1 (7 ∷ 8 ∷ [])) ∷ on 3 1 (uses (write 1 6)) ∷ runs 3 1 (writes 1 (4 ∷ 300 ∷ []))
+      ∷ asks (count 3) ∷ on 2 0 (uses (rename (98 ∷ []))) ∷ on 3 1 (uses (rename fileC)) ∷ on 3 1 (closes true) ∷ [];
+  later = on 2 1 (opens (read fileA)) ∷ on 2 1 (uses (next 2)) ∷ on 2 0 (opens (read fileC)) ∷ runs 2 0 (fills 2 (replicate 5 0)) ∷ asks (count 2) ∷ [];
 }
 
 -- ---- on the state as its users know it, after a fresh start over 1,024 cells

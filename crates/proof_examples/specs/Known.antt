@@ -2,29 +2,32 @@
 use Prim.Native.Nat.{ℕ}
 use mathlib.Core.Path.{_≡_, refl, ap, ap₂, _∙_}
 use mathlib.Core.Bool.{Bool, true, not, _&&_}
-use mathlib.Core.Option.{Option, none}
+use mathlib.Core.Option.{Option, none, some}
 use mathlib.Core.List.{List, [], _∷_}
 use lib.Dec.{T, leb}
 use Rattle.combine.specs.Verdict.{Said, done, refuse_when_else_}
 use Rattle.combine.specs.Outcome.{Outcome, settle}
+use Rattle.combine.specs.Run.{runOver}
 use Rattle.names.specs.Names.{symbolsOf, nameOf, scratchName, isScratch}
 use Rattle.placing.specs.Placing.{stretchOf, offsetOf, heldOf, claimOf, slotOf}
-use Rattle.placing.specs.Sizes.{Cells, widthOf, elementsOf}
-use Rattle.rules.specs.Calls.{fresh, load, Call, starts, asks, on}
+use Rattle.placing.specs.Sizes.{Cells, leastStore, widthOf, elementsOf}
+use Rattle.rules.specs.Calls.{fresh, load, Call, starts, asks, on, runs}
 use Rattle.rules.specs.Access.{writeRule, nextRule, prevRule, newPointerRule, renameRule}
 use Rattle.rules.specs.Rules.{lookUp, openNew, openedAs, openOld, headed, closeRule}
 use Rattle.rules.specs.Gates.{userGate, entryGate, startGate, imageGate}
+use Rattle.rules.specs.House.{closedDown}
+use Rattle.rules.specs.Runs.{RunTold, noRun}
 use Rattle.cells.specs.Outcomes.{Lent, lent}
 use Rattle.model.specs.Model.{Files, Model, free}
-use Rattle.model.specs.Step.{step, requestOnModel}
+use Rattle.model.specs.Step.{Report, report, step, stepRun, stepTold, requestOnModel, runOnModel}
 use Rattle.model.specs.View.{filesIn}
 use Rattle.combine.specs.laws.Tests.{and-first, and-second}
 use Rattle.proof_calls_sound.specs.Keeps.{keeps-sound}
-use Rattle.demands.specs.History.{outcomeOn, afterCall, viewOn}
+use Rattle.demands.specs.History.{outcomeOn, afterCall, toldOf, viewOn}
 use Rattle.demands.specs.Demands.{Sound}
 use Rattle.demands.specs.Abandoning.{isLoad}
-use Rattle.proof_demand2.specs.Demand2.{answer-known, after-known}
-use Rattle.examples.specs.Examples.{answersOn, AnswersSo}
+use Rattle.proof_demand2.specs.Demand2.{told-known, after-known}
+use Rattle.examples.specs.Examples.{answersOn, AnswersSo, runsOn, TellsSo}
 use Rattle.proof_examples.specs.Fresh.{nothingThere, fresh-is-done, fresh-leaves-sound, fresh-leaves-nothing}
 
 -- no image is looked at
@@ -42,10 +45,16 @@ step-blind f (starts fresh) m n = refl
 step-blind f (starts (load img)) m n = absurd n
 step-blind f (asks q) m n = refl
 step-blind f (on u e r) m n = refl
+step-blind f (runs u e r) m n = refl
 
 module _ (c : Call) (x : Lent) (s : Sound x) (n : T (not (isLoad c))) where
+  pub told-blind : toldOf c x ≡ stepTold blind c (viewOn x)
+  told-blind =
+      told-known c x s
+      ∙ ap (λ (o : Outcome Model). report c (o .answer) (some (closedDown (viewOn x .house))) (stepRun c (viewOn x))) (step-blind (filesIn (x .store)) c (viewOn x) n)
+
   pub answer-blind : outcomeOn c x .answer ≡ step blind c (viewOn x) .answer
-  answer-blind = answer-known c x s ∙ ap (λ (o : Outcome Model). o .answer) (step-blind (filesIn (x .store)) c (viewOn x) n)
+  answer-blind = ap (λ (r : Report). r .answer) told-blind
 
   pub after-blind : viewOn (afterCall c x) ≡ step blind c (viewOn x) .after
   after-blind = after-known c x s ∙ ap (λ (o : Outcome Model). o .after) (step-blind (filesIn (x .store)) c (viewOn x) n)
@@ -54,7 +63,7 @@ module _ (c : Call) (x : Lent) (s : Sound x) (n : T (not (isLoad c))) where
 
 -- what unfolds this unfolds every definition that the answers rest on
 unfoldable pub answersKnown : List Call → Model → List Said
-unfolding refuse_when_else_ settle symbolsOf nameOf scratchName isScratch stretchOf offsetOf heldOf claimOf slotOf widthOf elementsOf writeRule nextRule prevRule newPointerRule renameRule lookUp openNew openedAs openOld headed closeRule userGate entryGate startGate imageGate free requestOnModel
+unfolding refuse_when_else_ settle symbolsOf nameOf scratchName isScratch stretchOf offsetOf heldOf claimOf slotOf widthOf elementsOf writeRule nextRule prevRule newPointerRule renameRule lookUp openNew openedAs openOld headed closeRule userGate entryGate startGate imageGate free requestOnModel runOver runOnModel
 answersKnown [] m = []
 answersKnown (c ∷ cs) m = step blind c m .answer ∷ answersKnown cs (step blind c m .after)
 
@@ -66,6 +75,21 @@ answers-known (c ∷ cs) x s n =
     let later = answers-known cs (afterCall c x) (keeps-sound c x s) (and-second (not (isLoad c)) (noLoadb cs) n) in
     ap₂ {C = List Said} (λ a l. a ∷ l) (answer-blind c x s one) (later ∙ ap (answersKnown cs) (after-blind c x s one))
 
+-- ---- what the runs of a history tell
+
+unfoldable pub runsKnown : List Call → Model → List RunTold
+unfolding answersKnown
+runsKnown [] m = []
+runsKnown (c ∷ cs) m = stepRun c m ∷ runsKnown cs (step blind c m .after)
+
+pub runs-known : (cs : List Call) (x : Lent) → Sound x → T (noLoadb cs) → runsOn cs x ≡ runsKnown cs (viewOn x)
+unfolding runsKnown
+runs-known [] x s n = refl
+runs-known (c ∷ cs) x s n =
+    let one = and-first (not (isLoad c)) (noLoadb cs) n in
+    let later = runs-known cs (afterCall c x) (keeps-sound c x s) (and-second (not (isLoad c)) (noLoadb cs) n) in
+    ap₂ {C = List RunTold} (λ a l. a ∷ l) (ap (λ (r : Report). r .run) (told-blind c x s one)) (later ∙ ap (runsKnown cs) (after-blind c x s one))
+
 -- ---- after a fresh start over n cells
 
 pub answers-after : (n : ℕ) (calls : List Call) (said : List Said) → leb 64 n ≡ true → T (noLoadb calls) → answersKnown calls (nothingThere n) ≡ said
@@ -75,3 +99,11 @@ answers-after n calls said large none-loaded e s t cells long =
     ap₂ {C = List Said} (λ a l. a ∷ l) (fresh-is-done s t n cells large long)
     (answers-known calls (afterCall (starts fresh) (lent s t)) (fresh-leaves-sound s t n cells large long) none-loaded
     ∙ ap (answersKnown calls) (fresh-leaves-nothing s t n cells large long) ∙ e)
+
+pub runs-after : (n : ℕ) (calls : List Call) (told : List RunTold) → leb leastStore n ≡ true → T (noLoadb calls) → runsKnown calls (nothingThere n) ≡ told
+    → TellsSo n (starts fresh ∷ calls) (noRun ∷ told)
+unfolding TellsSo
+runs-after n calls told large none-loaded e s t cells long =
+    ap (λ (l : List RunTold). noRun ∷ l)
+    (runs-known calls (afterCall (starts fresh) (lent s t)) (fresh-leaves-sound s t n cells large long) none-loaded
+    ∙ ap (runsKnown calls) (fresh-leaves-nothing s t n cells large long) ∙ e)

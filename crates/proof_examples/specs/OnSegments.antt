@@ -6,12 +6,13 @@ use lib.Dec.{T}
 use Rattle.combine.specs.First.{firstBelow}
 use Rattle.combine.specs.Verdict.{refuse_when_else_}
 use Rattle.combine.specs.Outcome.{settle}
+use Rattle.combine.specs.Run.{runOver}
 use Rattle.names.specs.Names.{symbolsOf, nameOf, scratchName, isScratch}
 use Rattle.packing.specs.Packing.{field, putField, takeBits, putBits}
 use Rattle.placing.specs.Placing.{stretchOf, offsetOf, cellOf, bitOf, heldOf, slotOf}
 use Rattle.placing.specs.Sizes.{widthOf, elementsOf}
 use Rattle.store.specs.Store.{elementAt, putElement, zeroed, copied, segmentOf}
-use Rattle.rules.specs.Calls.{Call, starts, asks, on}
+use Rattle.rules.specs.Calls.{Call, starts, asks, on, runs}
 use Rattle.rules.specs.Access.{writeRule, nextRule, renameRule}
 use Rattle.rules.specs.Rules.{lookUp, openNew, openedAs, openOld, headed, closeRule}
 use Rattle.rules.specs.Gates.{userGate, entryGate}
@@ -21,6 +22,7 @@ use Rattle.segments.specs.State.{State, requestOnSegments}
 use Rattle.cells.specs.Outcomes.{Lent}
 use Rattle.cells.specs.laws.Lowered.{stateOf}
 use Rattle.proof_requests_agree.specs.Agrees.{request-agrees}
+use Rattle.proof_requests_agree.specs.Runs.{runOnSegments, run-agrees}
 use Rattle.proof_calls_sound.specs.Keeps.{keeps-sound}
 use Rattle.combine.specs.laws.Tests.{and-first, and-second}
 use Rattle.demands.specs.History.{afterCall, final}
@@ -35,10 +37,11 @@ abbrev afterOne : Call → State → State
 afterOne (starts c) m = m
 afterOne (asks q) m = m
 afterOne (on u e r) m = requestOnSegments r u e m .after
+afterOne (runs u e r) m = runOnSegments r u e m .after
 
 -- what unfolds this unfolds every definition that it rests on
 unfoldable pub stateAfter : List Call → State → State
-unfolding firstBelow refuse_when_else_ settle symbolsOf nameOf scratchName isScratch field putField takeBits putBits stretchOf offsetOf cellOf bitOf heldOf slotOf widthOf elementsOf elementAt putElement zeroed copied segmentOf writeRule nextRule renameRule lookUp openNew openedAs openOld headed closeRule userGate entryGate isFree lowestFree target prepared
+unfolding firstBelow refuse_when_else_ settle symbolsOf nameOf scratchName isScratch field putField takeBits putBits stretchOf offsetOf cellOf bitOf heldOf slotOf widthOf elementsOf elementAt putElement zeroed copied segmentOf writeRule nextRule renameRule lookUp openNew openedAs openOld headed closeRule userGate entryGate isFree lowestFree target prepared runOver runOnSegments
 stateAfter [] m = m
 stateAfter (c ∷ cs) m = stateAfter cs (afterOne c m)
 
@@ -46,6 +49,7 @@ one-known : (c : Call) (x : Lent) → Sound x → T (not (isStart c)) → stateO
 one-known (starts c) x s n = absurd n
 one-known (asks q) x s n = refl
 one-known (on u e r) x s n = request-agrees r (x .store) (x .tables) u e s .after
+one-known (runs u e r) x s n = run-agrees r x u e s .after
 
 pub state-known : (cs : List Call) (x : Lent) → Sound x → T (goesOn cs) → stateOf (final cs x) ≡ stateAfter cs (stateOf x)
 unfolding stateAfter

@@ -14,9 +14,9 @@ use Rattle.store.specs.Store.{putElement}
 use Rattle.rules.specs.Headings.{filing}
 use Rattle.rules.specs.House.{house, freshHouse}
 use Rattle.segments.specs.Free.{SegmentRecord, SegmentHouse}
-use Rattle.examples.specs.Examples.{Holds, AllHold, lift7, lift, ten, loses, claims, appends, ownPointer, savedFresh, bytesOfA, makesFileA, imageWithA, savedFile, givenUp, worked}
+use Rattle.examples.specs.Examples.{Holds, AllHold, lift7, lift, ten, loses, claims, appends, ownPointer, savedFresh, bytesOfA, makesFileA, imageWithA, savedFile, givenUp, runsAnswered, runsTold, worked}
 use Rattle.proof_examples.specs.OnSegments.{stateAfter}
-use Rattle.proof_examples.specs.Known.{answersKnown, answers-after}
+use Rattle.proof_examples.specs.Known.{answersKnown, answers-after, runsKnown, runs-after}
 use Rattle.proof_examples.specs.Saved.{imageBy, Leads, saves-after}
 
 -- ---- numbers
@@ -55,6 +55,16 @@ given-up-holds : Holds givenUp
 unfolding answersKnown
 given-up-holds = answers-after (segmentCells * 2) _ _ refl tt refl
 
+-- ---- runs
+
+runs-answered-holds : Holds runsAnswered
+unfolding answersKnown
+runs-answered-holds = answers-after segmentCells _ _ refl tt refl
+
+runs-told-holds : Holds runsTold
+unfolding runsKnown
+runs-told-holds = runs-after segmentCells _ _ refl tt refl
+
 -- ---- saved: fresh with 128 segments
 
 packed-fresh : imageBy (freshHouse (segmentCells * 128)) ≡ 0x01100000 ∷ replicate 896 0
@@ -89,4 +99,4 @@ saved-file-holds = saves-after (segmentCells * 128) makesFileA houseWithA imageW
 
 pub worked-hold : AllHold worked
 worked-hold =
-    (lift7-holds, (lift-holds, (ten-holds, (loses-holds, (claims-holds, (appends-holds, (own-pointer-holds, (saved-fresh-holds, (saved-file-holds, (given-up-holds, tt))))))))))
+    (lift7-holds, (lift-holds, (ten-holds, (loses-holds, (claims-holds, (appends-holds, (own-pointer-holds, (saved-fresh-holds, (saved-file-holds, (given-up-holds, (runs-answered-holds, (runs-told-holds, tt))))))))))))

@@ -2,3 +2,4 @@
 pub mod Fits
 pub mod Agrees
 pub mod Requests
+pub mod Runs

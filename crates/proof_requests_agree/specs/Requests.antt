@@ -94,9 +94,9 @@ module _ (r : Request) (s t : List ℕ) (u e : ℕ) (sound : soundLent s t ≡ t
   after-sound : SoundHouse (houseOf (requestOut r s t u e .after .tables))
   after-sound = subst (λ (m : State). SoundHouse (m .house)) (sym (request-agrees r s t u e sound .after)) (request-keeps-sound r u e (stateOf (lent s t)) said)
 
-  same-segments : segmentsIn (requestOut r s t u e .after .tables) ≡ segmentsIn t
+  pub request-segments : segmentsIn (requestOut r s t u e .after .tables) ≡ segmentsIn t
   unfolding houseOf
-  same-segments = ap (λ (m : State). m .house .segments) (request-agrees r s t u e sound .after) ∙ request-keeps-segments r u e (stateOf (lent s t))
+  request-segments = ap (λ (m : State). m .house .segments) (request-agrees r s t u e sound .after) ∙ request-keeps-segments r u e (stateOf (lent s t))
 
   pub request-store-length : length (requestOut r s t u e .after .store) ≡ length s
   request-store-length = ap (λ (m : State). length (m .store)) (request-agrees r s t u e sound .after) ∙ request-keeps-store-length r u e (stateOf (lent s t)) said fits
@@ -108,7 +108,7 @@ module _ (r : Request) (s t : List ℕ) (u e : ℕ) (sound : soundLent s t ≡ t
   request-sound =
       let o = requestOut r s t u e .after in
       let room : segmentCells * segmentsIn (requestOut r s t u e .after .tables) ≤ length (requestOut r s t u e .after .store) =
-      rw (same-segments, request-store-length) (fits-store (length s) t sound) in
+      rw (request-segments, request-store-length) (fits-store (length s) t sound) in
       says-sound (length (o .store)) (o .tables) request-tables-length room (request-written .1) after-sound
 
   pub request-beyond : (k : ℕ) → segmentCells * segmentsIn t ≤ k → getD (requestOut r s t u e .after .store) k 0 ≡ getD s k 0

@@ -8,13 +8,16 @@ use mathlib.Core.List.{List, [], _∷_, map}
 use native.Mathlib.Omega.{arith}
 use lib.Dec.{leb}
 use borrow.Author.Tests.{leb-true, le-leb}
-use lib.ListN.{length, getD}
+use lib.ListN.{length, getD, List·getD-map}
 use Rattle.combine.specs.laws.Below.{split-bool, bool-ext}
 use Rattle.combine.specs.Lists.{any, isIn}
+use Rattle.placing.specs.Sizes.{entryOf}
 use Rattle.store.specs.Store.{segmentOf}
-use Rattle.rules.specs.Calls.{Request}
-use Rattle.rules.specs.Headings.{headOf, handleOf, slotIn, passes}
+use Rattle.rules.specs.Calls.{Request, Run}
+use Rattle.rules.specs.Headings.{Handle, headOf, handleOf, slotIn, passes}
 use Rattle.rules.specs.Rules.{rule}
+use Rattle.rules.specs.Gates.{entryGate}
+use Rattle.rules.specs.Runs.{admits, admission}
 use Rattle.rules.specs.House.{opensPlace, worksPlace, othersOf}
 use Rattle.rules.specs.Levels.{blank, orBlank, ruled}
 use Rattle.segments.specs.Free.{SegmentRecord, SegmentOpening, SegmentHouse, placeSegments, hasRoom}
@@ -76,3 +79,11 @@ rule-seen s r u h x room =
       opened = λ p. any (passes (opensPlace p)) (handles-seen s (h .records) (h .openings) i);
       worked = λ p. any (passes (worksPlace p)) (handles-seen s (h .records) (h .openings) i);
     }
+
+-- ---- what is judged before a run: the entry's handle
+
+pub admission-seen : (s : List ℕ) (r : Run) (u e : ℕ) (h : SegmentHouse) → admission true r u e (viewHouse s h) ≡ admission true r u e h
+admission-seen s r u e h =
+    let i = entryOf u e in
+    ap (λ (x : Option Handle). entryGate true u e (admits r x))
+    (ap handleOf (List·getD-map (viewEntry s (h .records)) (h .openings) i none) ∙ handle-seen s (h .records) (getD (h .openings) i none))
