@@ -38,7 +38,7 @@ fn settle(
 }
 
 // A plan that was decided for the opening is carried out.
-fn carry(
+pub fn carry(
     store: &mut [u32],
     tables: &mut [u32],
     entry: usize,

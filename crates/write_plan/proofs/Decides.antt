@@ -41,7 +41,7 @@ module _ (t : List ℕ) (o : Opening) (p : ℕ) (a b : ℕ → Verdict Use) (e :
   planned-same : (x : Plan) → Planned t o p a x → Planned t o p b x
   planned-same (No why) f = record { says = λ n. e n ∙ f .says n }
   planned-same Drop f = record { says = record { first = f .says .first; some = f .says .some; told = λ n. e n ∙ f .says .told n } }
-  planned-same (Put g) f = record { says = record { into = stores-same (f .says .into); there = f .says .there; cells = f .says .cells } }
+  planned-same (Put g) f = record { says = record { into = stores-same (f .says .into); there = f .says .there; held = f .says .held; alone = f .says .alone; cells = f .says .cells } }
   planned-same (Copy k h g) f = record { says = record { into = stores-same (f .says .into); source = f .says .source; cells = f .says .cells } }
   planned-same (Zero k g) f = record { says = record { into = stores-same (f .says .into); cells = f .says .cells } }
 

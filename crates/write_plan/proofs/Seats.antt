@@ -135,6 +135,8 @@ module _ (t : List ℕ) (o : Opening) (p : ℕ) (w : Known t o) (z : Seats o p) 
               says = record {
                 into = record { seats = z; place = refl; which = q; range = seat-range; told = i .told };
                 there = ap (λ (j : ℕ). getD (o .segments) j (segment 0)) (sym ek) ∙ sym eg;
+                held = omega (arith, ek, eh);
+                alone = sym eb ∙ not-true b n;
                 cells = λ s. prepared-same s (houseOf t) (openingIn o) (valueOf o p) holds-it (shares-it ∙ not-true b n);
               };
             }

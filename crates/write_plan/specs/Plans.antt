@@ -1,7 +1,7 @@
 -- The call `write`: what a plan says of the verdict, and that it can be carried out. Assumes nothing.
 use Prim.Native.Nat.{ℕ, _+_, _≤_, _<_}
 use mathlib.Core.Path.{_≡_}
-use mathlib.Core.Bool.{_&&_, not}
+use mathlib.Core.Bool.{false, _&&_, not}
 use mathlib.Core.List.{List}
 use lib.Dec.{leb, ltb}
 use lib.ListN.{getD}
@@ -21,6 +21,7 @@ use Rattle.tables.specs.Layout.{segmentsIn}
 use Rattle.tables.specs.Fields.{valueOf}
 use Rattle.tables.specs.Handles.{handleIn}
 use Rattle.cells.specs.Says.{openingIn, houseOf}
+use Rattle.opening_laws.specs.Shared.{sharesNumber}
 use Rattle.write_plan.specs.declared.Plan.{Plan}
 use Rattle.write_plan.specs.declared.Plan.the-variants.{No, Drop, Put, Copy, Zero}
 
@@ -72,9 +73,12 @@ pub record Drops (o : Opening) (p : ℕ) (verdict : ℕ → Verdict Use) : Type 
   pub some : valueOf o 0 < valueOf o 1
   pub told : (n : ℕ) → verdict n ≡ done (does (plain 0) (moved (handleIn o) 0 (valueOf o 0 + 1)) firstLeaves)
 
+-- the opening holds segment g, and its record has it not
 pub record Puts (t : List ℕ) (o : Opening) (p : ℕ) (verdict : ℕ → Verdict Use) (g : Segment) : Type 0 where
   pub into : Stores t o p verdict (slotOf (o .species) (valueOf o 0) (valueOf o p)) g
   pub there : getD (o .segments) (slotOf (o .species) (valueOf o 0) (valueOf o p)) (segment 0) ≡ g
+  pub held : slotOf (o .species) (valueOf o 0) (valueOf o p) < heldOf (o .species) (valueOf o 0) (valueOf o 1)
+  pub alone : sharesNumber t o (g .0) ≡ false
   pub cells : (s : List ℕ) → preparedFor t o p s ≡ s
 
 pub record Copies (t : List ℕ) (o : Opening) (p : ℕ) (verdict : ℕ → Verdict Use) (k : ℕ) (f g : Segment) : Type 0 where

@@ -1,0 +1,2 @@
+-- What the contracts of `run_puts` cite. Assumes nothing.
+pub mod Puts

@@ -1,0 +1,41 @@
+-- Elements of a run that lie in one segment: s is the store's cells, t the tables', i an entry of 32, o its opening, p a pointer, l a list of
+-- numbers. Assumes nothing.
+use Prim.Native.Nat.{ℕ, zero, suc, _+_, _≤_, _<_}
+use mathlib.Core.Path.{_≡_}
+use mathlib.Core.Bool.{cond}
+use mathlib.Core.List.{List}
+use lib.Dec.{eqb}
+use lib.ListN.{length, getD}
+use Rattle.placing.specs.declared.Segment.{Segment}
+use Rattle.placing.specs.Sizes.{Cells, greatestEnd, greatestSpecies, allPointers}
+use Rattle.placing.specs.Placing.{position}
+use Rattle.store.specs.Store.{putElement}
+use Rattle.tables.specs.declared.Opening.{Opening}
+use Rattle.tables.specs.Layout.{putOpening}
+use Rattle.tables.specs.Fields.{valueOf}
+use Rattle.tables.specs.Handles.{pointed}
+use Rattle.run_spans.specs.Ahead.{Ahead}
+
+-- the store with so many elements of the list put, from the first position on, all into segment g
+unfoldable pub putFirst : (store : Cells) (species : ℕ) → Segment → (first : ℕ) (list : List ℕ) (many : ℕ) → Cells
+putFirst s k g v l zero = s
+putFirst s k g v l (suc j) = putElement (putFirst s k g v l j) k g (position (v + j)) (getD l j 0)
+
+-- the first position that pointer p does not write at: "An append refused for 10: e is 16,777,215."; "p not 1 and v >= e is 7"
+unfoldable pub limitOf : Opening → (pointer : ℕ) → ℕ
+limitOf o p = cond (eqb p 1) greatestEnd (valueOf o 1)
+
+-- pointer p is at a position that it writes at
+pub record Points (o : Opening) (p : ℕ) : Type 0 where
+  pub species : o .species ≤ greatestSpecies
+  pub known : p < allPointers
+  pub some : 1 ≤ valueOf o p
+  pub below : valueOf o p < limitOf o p
+  pub fits : limitOf o p ≤ greatestEnd
+
+-- k elements of the list are put into segment g, and the pointer moves once
+pub record Stretched (s t : Cells) (i : ℕ) (o : Opening) (p : ℕ) (g : Segment) (l : List ℕ) (k : ℕ) (s′ t′ : Cells) : Type 0 where
+  pub few : k ≤ length l
+  pub ahead : Ahead (o .species) (valueOf o p) (limitOf o p) k
+  pub store : s′ ≡ putFirst s (o .species) g (valueOf o p) l k
+  pub tables : t′ ≡ putOpening t i (pointed o p (position (valueOf o p + k)))

@@ -1,0 +1,64 @@
+// The elements of a run that lie in one segment, which the opening holds alone.
+ghost use mathlib.Core.Path.{_≡_};
+ghost use Prim.Native.Nat.{_+_, _*_, _≤_, _<_};
+ghost use lib.ListN.{length};
+ghost use Rattle.placing.specs.Sizes.{segmentCells, greatestEnd, greatestSpecies, tablesLength, entries};
+ghost use Rattle.run_puts.specs.Puts.{putFirst, limitOf, Points, Stretched};
+use placing::GREATEST_END;
+use placing::Position;
+use placing::Segment;
+use tables::Opening;
+
+// So many elements of a list, from a position on, all into one segment.
+fn put_all(
+    store: &mut [u32],
+    species: u32,
+    segment: Segment,
+    first: Position,
+    list: &[u32],
+    count: usize,
+)
+    requires { ⌜ segment .0 * segmentCells + segmentCells ≤ length (now store) ⌝ }
+    requires { ⌜ (1 ≤ first .0) × (first .0 + count ≤ greatestEnd) × (species ≤ greatestSpecies) × (count ≤ length (now list)) ⌝ }
+    ensures { λ _. ⌜ now (store .exit) ≡ putFirst (now (store .entry)) species segment (first .0) (now (list .entry)) count ⌝ }
+{
+    let mut j: usize = 0;
+    while j < count {
+        let at = run_spans::on_by(first, j);
+        store::put_element(store, species, segment, at, list[j]);
+        j += 1;
+    }
+}
+
+// The first position that the pointer does not write at.
+fn limit(opening: Opening, pointer: u32) -> Position
+    ensures { λ r. ⌜ r .0 ≡ limitOf opening pointer ⌝ }
+{
+    if pointer == 1 {
+        return Position::of(GREATEST_END);
+    }
+    opening.value(1)
+}
+
+// As many elements of the list as go into the segment that the opening holds for the pointer's position: how many.
+pub fn put_stretch(
+    store: &mut [u32],
+    tables: &mut [u32],
+    entry: usize,
+    opening: Opening,
+    pointer: u32,
+    own: Segment,
+    list: &[u32],
+) -> usize
+    requires { ⌜ (length (now tables) ≡ tablesLength) × (entry < entries) × (own .0 * segmentCells + segmentCells ≤ length (now store)) × Points opening pointer × (1 ≤ length (now list)) ⌝ }
+    ensures { λ r. ⌜ Stretched (now (store .entry)) (now (tables .entry)) entry opening pointer own (now (list .entry)) r (now (store .exit)) (now (tables .exit)) ⌝ }
+{
+    let value = opening.value(pointer);
+    let beyond = limit(opening, pointer);
+    let most = run_spans::ahead(opening.species, value, beyond);
+    let count = run_spans::fewer(most, list.len());
+    put_all(store, opening.species, own, value, list, count);
+    let after = opening.step(pointer, run_spans::on_by(value, count));
+    tables_openings::put_opening(tables, entry, after);
+    count
+}
