@@ -3,3 +3,4 @@ pub mod Singles
 pub mod Stands
 pub mod Pointed
 pub mod Along
+pub mod Admitted
