@@ -1,6 +1,6 @@
--- Elements taken one after another, as the code's steps give their premises. Assumes nothing.
-use Prim.Native.Nat.{ℕ, _+_, _≤_, _<_}
-use mathlib.Core.Path.{_≡_, refl, sym, ap, _∙_}
+-- How many elements are taken, and that they are, as the code's steps give their premises. Assumes nothing.
+use Prim.Native.Nat.{ℕ, _+_, _-_, _≤_, _<_}
+use mathlib.Core.Path.{_≡_, sym, ap, subst, _∙_}
 use mathlib.Core.List.{List}
 use native.Mathlib.Numerals.{add-one}
 use native.Mathlib.Omega.{arith}
@@ -9,13 +9,46 @@ use lib.Seq.{paste, paste-zero, paste-suc}
 use Rattle.combine.specs.laws.Lists.{length-tab, tab-at}
 use Rattle.placing.specs.declared.Segment.{Segment}
 use Rattle.placing.specs.declared.Position.{Position}
-use Rattle.placing.specs.Placing.{position}
+use Rattle.placing.specs.Placing.{position, stretchOf}
 use Rattle.store.specs.Store.{elementAt}
 use Rattle.tables.specs.declared.Opening.{Opening}
 use Rattle.tables.specs.Layout.{putOpening}
 use Rattle.tables.specs.Fields.{valueOf}
 use Rattle.tables.specs.Handles.{pointed}
-use Rattle.run_takes.specs.Takes.{taken, Took}
+use Rattle.run_spans.specs.Ahead.{Ahead, Fewer}
+use Rattle.run_takes.specs.Takes.{taken, Far, Took}
+
+-- ---- how far: x is the pointer's value, y the end, m how many positions lie ahead
+
+module _ (o : Opening) (p : ℕ) (x y : Position) (ex : x .0 ≡ valueOf o p) (ey : y .0 ≡ valueOf o 1) (m : ℕ) (a : Ahead (o .species) (x .0) (y .0) m) where
+  same-there : (j : ℕ) → j < m → stretchOf (o .species) (valueOf o p + j) ≡ stretchOf (o .species) (valueOf o p)
+  same-there j l = subst (λ (v : ℕ). stretchOf (o .species) (v + j) ≡ stretchOf (o .species) v) ex (a .same j l)
+
+  pub one-ahead : 1 ≤ m
+  one-ahead = a .some
+
+  module _ (left k : ℕ) where
+    pub far-first : p ≡ 0 → Fewer (m - 1) left k → Far o p left k
+    far-first z f =
+        let some = a .some in
+        let below = a .before in
+        let few = f .first in
+        record {
+          few = f .second;
+          before = omega arith;
+          same = λ j l. same-there j (omega (arith, l));
+          begin = λ q. (omega arith, same-there k (omega arith));
+        }
+
+    pub far-other : (p ≡ 0 → ⊥) → Fewer m left k → Far o p left k
+    far-other d f =
+        let below = a .before in
+        let few = f .first in
+        record { few = f .second; before = omega arith; same = λ j l. same-there j (omega (arith, l)); begin = λ q. absurd (d q) }
+
+pub ruleset fars = (one-ahead, far-first, far-other)
+
+-- ---- one after another
 
 module _ (s : List ℕ) (k : ℕ) (g : Segment) (v many : ℕ) where
   length-taken : length (taken s k g v many) ≡ many
