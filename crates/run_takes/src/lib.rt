@@ -1,0 +1,69 @@
+// The elements that a run takes from one stretch: how many, and they are taken.
+ghost use mathlib.Core.Path.{_≡_};
+ghost use Prim.Native.Nat.{_+_, _*_, _≤_, _<_};
+ghost use lib.ListN.{length};
+ghost use lib.Seq.{paste};
+ghost use Rattle.placing.specs.Sizes.{segmentCells, greatestEnd, greatestSpecies, tablesLength, entries};
+ghost use Rattle.tables.specs.Fields.{valueOf};
+ghost use Rattle.run_takes.specs.Takes.{taken, Points, Far, Took};
+use placing::Position;
+use placing::Segment;
+use tables::Opening;
+
+// How many elements from a pointer's value on are of one stretch, of so many that are left. "Through 0 the element leaves the
+// file.", and with a stretch's last element its segment does: that one is not among them.
+pub fn how_far(opening: Opening, pointer: u32, left: usize) -> usize
+    requires { ⌜ Points opening pointer ⌝ }
+    ensures { λ r. ⌜ Far opening pointer left r ⌝ }
+{
+    let value = opening.value(pointer);
+    let end = opening.value(1);
+    let most = run_spans::ahead(opening.species, value, end);
+    if pointer == 0 {
+        return run_spans::fewer(most - 1, left);
+    }
+    run_spans::fewer(most, left)
+}
+
+// So many elements from a position on, all of one segment, into a list from a place on.
+fn take_all(
+    store: &[u32],
+    species: u32,
+    segment: Segment,
+    first: Position,
+    list: &mut [u32],
+    from: usize,
+    count: usize,
+)
+    requires { ⌜ segment .0 * segmentCells + segmentCells ≤ length (now store) ⌝ }
+    requires { ⌜ (1 ≤ first .0) × (first .0 + count ≤ greatestEnd) × (species ≤ greatestSpecies) × (from + count ≤ length (now list)) ⌝ }
+    ensures { λ _. ⌜ now (list .exit) ≡ paste (now (list .entry)) from (taken (now (store .entry)) species segment (first .0) count) count ⌝ }
+{
+    let mut n: usize = 0;
+    while n < count {
+        let at = run_spans::on_by(first, n);
+        list[from + n] = store::take_element(store, species, segment, at);
+        n += 1;
+    }
+}
+
+// So many elements from a pointer's value on: the pointer moves once, and the opening is put back once.
+pub fn take_stretch(
+    store: &[u32],
+    tables: &mut [u32],
+    entry: usize,
+    opening: Opening,
+    pointer: u32,
+    segment: Segment,
+    list: &mut [u32],
+    from: usize,
+    count: usize,
+)
+    requires { ⌜ (length (now tables) ≡ tablesLength) × (entry < entries) × (segment .0 * segmentCells + segmentCells ≤ length (now store)) × Points opening pointer × (valueOf opening pointer + count ≤ valueOf opening 1) × (from + count ≤ length (now list)) ⌝ }
+    ensures { λ _. ⌜ Took (now (store .entry)) (now (tables .entry)) entry opening pointer segment (now (list .entry)) from count (now (tables .exit)) (now (list .exit)) ⌝ }
+{
+    let value = opening.value(pointer);
+    take_all(store, opening.species, segment, value, list, from, count);
+    let after = opening.step(pointer, run_spans::on_by(value, count));
+    tables_openings::put_opening(tables, entry, after);
+}
