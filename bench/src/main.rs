@@ -11,6 +11,8 @@ mod measure;
 mod proved;
 mod random;
 mod scenes;
+mod singles;
+mod starts;
 mod tables;
 mod twin;
 
@@ -18,12 +20,12 @@ const PASSES: usize = 8;
 
 fn main() {
     assert_eq!(proved::NOW.lengths(), (twin::TABLES, twin::IMAGE), "the twin's tables or image are not this build's");
-    let answers = agree::histories();
-    println!(
-        "{} random calls: proved code and twin answer alike and leave the same cells.",
-        answers.iter().sum::<u32>()
-    );
-    println!("done and refused 1 to 22, how often: {answers:?}");
+    let heard = agree::histories();
+    let [calls, runs] = [heard.calls, heard.runs].map(|answers| answers.iter().sum::<u32>());
+    println!("{calls} random calls: proved code and twin answer alike and leave the same cells.");
+    println!("done and refused 1 to 22, how often: {:?}", heard.calls);
+    println!("{runs} random runs, {} elements: alike too, and as their single calls.", heard.elements);
+    println!("done and stopped by 1 to 22, how often: {:?}, after an element: {:?}", heard.runs, heard.late);
     tables::compact().iter().chain(&tables::scattered()).for_each(|(_, tables)| agree::soundness(tables));
     println!("Soundness of the tables measured, with each one cell changed: alike.");
 

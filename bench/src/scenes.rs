@@ -7,6 +7,8 @@ use crate::{proved, twin};
 pub const HERE: At = (0, 0);
 /// Of each record, but on the full store.
 const HELD: u32 = 15;
+/// The longest run that is measured.
+pub const LONGEST_RUN: usize = 60_000;
 
 /// The name of the record at place 0, user 0's.
 pub fn own() -> Vec<u8> {
@@ -21,7 +23,11 @@ pub struct Scene {
 
 impl Scene {
     fn of(tables: Vec<u32>) -> Scene {
-        Scene { lent: Lent { store: vec![0; CELLS], tables, image: vec![0; twin::IMAGE] }, first: vec![] }
+        let list = vec![0; LONGEST_RUN];
+        Scene {
+            lent: Lent { store: vec![0; CELLS], tables, image: vec![0; twin::IMAGE], list, place: 0 },
+            first: vec![],
+        }
     }
 
     /// The same after these calls.
