@@ -10,6 +10,7 @@ mod kinds;
 mod measure;
 mod proved;
 mod random;
+mod runs;
 mod scenes;
 mod singles;
 mod starts;
@@ -34,6 +35,7 @@ fn main() {
         book.begin();
         decisions::write(&mut book);
         kinds::write(&mut book);
+        runs::write(&mut book);
         growth::write(&mut book);
     }
     book.print(proved::lengths_before().is_some());
