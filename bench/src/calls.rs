@@ -13,6 +13,9 @@ pub struct Lent {
 /// A user and an entry.
 pub type At = (u32, u32);
 
+/// "Sensors deliver forty readings together"
+pub const DELIVERED: u32 = 40;
+
 #[derive(Clone, Debug)]
 pub enum Call {
     Save,

@@ -1,5 +1,5 @@
 //! Random calls: all users and entries, numbers mostly in range and sometimes wild. They look at the tables, so that many of them are done.
-use crate::calls::{At, Call};
+use crate::calls::{At, Call, DELIVERED};
 use crate::random::Random;
 
 /// Names that the calls use again and again: of one symbol, of twelve, with blanks, empty ones.
@@ -8,8 +8,6 @@ const NAMES: [&[u8]; 10] =
 
 /// More than a segment of species 0 has.
 pub const LONGEST_RUN: u32 = 2_500;
-/// "Sensors deliver forty readings together"
-pub const DELIVERED: u32 = 40;
 
 pub struct Chance {
     pub random: Random,

@@ -1,7 +1,7 @@
 //! Runs of as many elements as a sensor delivers, and of a thousand.
 use crate::book::Book;
 use crate::calls::Call::{self, FillRun, WriteRun};
-use crate::chance::DELIVERED;
+use crate::calls::DELIVERED;
 use crate::measure;
 use crate::scenes::{open_between, Scene, HERE};
 use crate::tables::ELEMENTS;
@@ -27,7 +27,7 @@ pub fn write_run(pointer: u32, elements: usize) -> Call {
 }
 
 /// A file whose first stretch has so many elements or positions before the run's first.
-pub fn scene(records: usize, species: u32, run: &Call, before: u32, elements: u32) -> Scene {
+fn scene(records: usize, species: u32, run: &Call, before: u32, elements: u32) -> Scene {
     if let WriteRun(_, 1, _) = run {
         return open_between(records, species, 1, 1 + before);
     }
@@ -35,7 +35,7 @@ pub fn scene(records: usize, species: u32, run: &Call, before: u32, elements: u3
 }
 
 /// So many that half of the run, or of a stretch, is in the first stretch.
-pub fn halfway(species: u32, elements: u32) -> u32 {
+fn halfway(species: u32, elements: u32) -> u32 {
     let in_stretch = ELEMENTS[species as usize];
     in_stretch - elements.min(in_stretch) / 2
 }
