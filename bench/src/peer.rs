@@ -1,7 +1,8 @@
 //! What a user would take instead: SQLite in memory by its C library. One table holds a sensor's readings, one in a row, in the order in which they came; its
 //! statements are prepared once. Built where bench/run finds the library.
-use std::ffi::{c_char, c_int, c_void, CStr};
-use std::ptr::null_mut;
+use std::ffi::CStr;
+use std::os::raw::{c_char, c_int, c_void};
+use std::ptr::{null, null_mut};
 
 /// A database or a statement of SQLite's.
 type Handle = *mut c_void;
@@ -24,27 +25,30 @@ extern "C" {
     fn sqlite3_finalize(statement: Handle) -> c_int;
 }
 
+const IN_MEMORY: &[u8] = b":memory:\0";
 const OK: c_int = 0;
 const ROW: c_int = 100;
 const DONE: c_int = 101;
 /// READWRITE, CREATE, and NOMUTEX: there is one thread, so no call need lock anything.
 const FLAGS: c_int = 0x2 | 0x4 | 0x8000;
 
-// SAFETY, of all here: a Database and its Statements are what SQLite handed out, in use until they are dropped, by one thread; texts end with 0.
+// SAFETY, of all here: a Database and its Statements are what SQLite handed out, in use until they are dropped, by one thread; the file's name ends with 0, and a
+// statement's text goes with its length.
 struct Database(Handle);
 
 impl Database {
     fn in_memory() -> Database {
         let mut database = null_mut();
-        let answer = unsafe { sqlite3_open_v2(c":memory:".as_ptr(), &mut database, FLAGS, std::ptr::null()) };
+        let answer = unsafe { sqlite3_open_v2(IN_MEMORY.as_ptr().cast(), &mut database, FLAGS, null()) };
         assert_eq!(answer, OK, "SQLite opens no database");
         Database(database)
     }
 
-    fn prepared(&self, text: &CStr) -> Statement {
+    fn prepared(&self, text: &str) -> Statement {
         let mut statement = null_mut();
-        let answer = unsafe { sqlite3_prepare_v2(self.0, text.as_ptr(), -1, &mut statement, null_mut()) };
-        assert_eq!(answer, OK, "SQLite does not take {text:?}");
+        let (start, length) = (text.as_ptr().cast(), text.len() as c_int);
+        let answer = unsafe { sqlite3_prepare_v2(self.0, start, length, &mut statement, null_mut()) };
+        assert_eq!(answer, OK, "SQLite does not take: {text}");
         Statement(statement)
     }
 }
@@ -104,15 +108,15 @@ pub struct Readings {
 impl Readings {
     pub fn new(readings: &[u32]) -> Readings {
         let database = Database::in_memory();
-        database.prepared(c"CREATE TABLE reading (value INTEGER)").run();
+        database.prepared("CREATE TABLE reading (value INTEGER)").run();
         let table = Readings {
-            append: database.prepared(c"INSERT INTO reading (value) VALUES (?1)"),
-            read: database.prepared(c"SELECT value FROM reading WHERE rowid = ?1"),
-            scan: database.prepared(c"SELECT value FROM reading WHERE rowid >= ?1 ORDER BY rowid"),
-            replace: database.prepared(c"UPDATE reading SET value = ?2 WHERE rowid = ?1"),
-            shorten: database.prepared(c"DELETE FROM reading WHERE rowid > ?1"),
-            begin: database.prepared(c"BEGIN"),
-            commit: database.prepared(c"COMMIT"),
+            append: database.prepared("INSERT INTO reading (value) VALUES (?1)"),
+            read: database.prepared("SELECT value FROM reading WHERE rowid = ?1"),
+            scan: database.prepared("SELECT value FROM reading WHERE rowid >= ?1 ORDER BY rowid"),
+            replace: database.prepared("UPDATE reading SET value = ?2 WHERE rowid = ?1"),
+            shorten: database.prepared("DELETE FROM reading WHERE rowid > ?1"),
+            begin: database.prepared("BEGIN"),
+            commit: database.prepared("COMMIT"),
             _database: database,
         };
         table.append_all(readings);

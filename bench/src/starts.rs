@@ -3,13 +3,14 @@ use crate::calls::{At, Lent};
 use crate::chance::LONGEST_RUN;
 use crate::random::Random;
 use crate::tables::{empty, file, open_new, reading, short, Content, CELLS, ELEMENTS, SEGMENTS};
-use crate::twin;
+use crate::twin::layout::{opening, opening_mut};
+use crate::twin::{GREATEST_END, IMAGE};
 
 pub fn lent(cells: usize, tables: Vec<u32>) -> Lent {
     Lent {
         store: (0..cells as u32).map(|cell| cell.wrapping_mul(0x9E37_79B9)).collect(),
         tables,
-        image: vec![0; twin::IMAGE],
+        image: vec![0; IMAGE],
         list: (0..LONGEST_RUN).collect(),
         place: 0,
     }
@@ -41,8 +42,6 @@ pub fn files_near_limits(place: u32) -> Content {
     }
 }
 
-const GREATEST_END: u32 = 16_777_215;
-
 /// An entry has a file open that begins anywhere: a new one, or one that it works on or reads.
 pub fn one_file(random: &mut Random) -> (Lent, At) {
     let entry = random.below(32);
@@ -60,7 +59,7 @@ pub fn one_file(random: &mut Random) -> (Lent, At) {
     }
     let others = Content { species: 5, begin: 1, end: 1 + 64 * neighbour, first: first + content.held() + own };
     open_new(&mut tables, (entry as usize + 1) % 32, others);
-    put_pointers(random, &mut tables[3201 + 56 * entry as usize + 6..][..6], content);
+    put_pointers(random, &mut opening_mut(&mut tables, entry as usize)[opening::WORK_AND_OWN], content);
     (lent(64 * tables[0] as usize + random.below(64) as usize, tables), (entry / 4, entry % 4))
 }
 
@@ -92,9 +91,10 @@ fn read_record(tables: &mut [u32], entry: u32, content: Content) {
 /// The opening has so many first segments of its own, which follow the record's.
 fn work_record(tables: &mut [u32], entry: u32, content: Content, own: u32) {
     read_record(tables, entry, content);
-    let cells = &mut tables[3201 + 56 * entry as usize..][..56];
-    cells[2] = 1;
-    for (cell, segment) in cells[24..].iter_mut().zip(content.first + content.held()..).take(own as usize) {
+    let cells = opening_mut(tables, entry as usize);
+    cells[opening::PERMIT] = 1;
+    let segments = content.first + content.held()..;
+    for (cell, segment) in cells[opening::SEGMENTS].iter_mut().zip(segments).take(own as usize) {
         *cell = segment;
     }
 }

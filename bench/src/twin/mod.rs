@@ -4,7 +4,7 @@ mod access;
 mod free;
 mod gate;
 mod image;
-mod layout;
+pub mod layout;
 mod means;
 mod openings;
 mod packing;
@@ -18,6 +18,7 @@ pub use free::{free_count, lowest_free, lowest_free_by_search};
 pub use image::IMAGE;
 pub use layout::TABLES;
 pub use perform::{perform, perform_singly};
+pub use placing::GREATEST_END;
 pub use soundness::sound;
 
 /// "The numbers a refusal carries"

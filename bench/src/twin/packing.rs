@@ -62,7 +62,7 @@ fn put<const WIDTH: u32>(cells: &mut Segment, offset: usize, numbers: &[u32]) {
     if !first.is_empty() {
         put_part::<WIDTH>(&mut cells[offset / in_cell(WIDTH)], offset % in_cell(WIDTH), first);
     }
-    let mut cells = cells[offset.div_ceil(in_cell(WIDTH))..].iter_mut();
+    let mut cells = cells[(offset + first.len()) / in_cell(WIDTH)..].iter_mut();
     let whole = numbers.chunks_exact(in_cell(WIDTH));
     let last = whole.remainder();
     for (numbers, cell) in whole.zip(&mut cells) {
@@ -78,7 +78,7 @@ fn take<const WIDTH: u32>(cells: &Segment, offset: usize, numbers: &mut [u32]) {
     if !first.is_empty() {
         take_part::<WIDTH>(cells[offset / in_cell(WIDTH)], offset % in_cell(WIDTH), first);
     }
-    let mut cells = cells[offset.div_ceil(in_cell(WIDTH))..].iter();
+    let mut cells = cells[(offset + first.len()) / in_cell(WIDTH)..].iter();
     let mut whole = numbers.chunks_exact_mut(in_cell(WIDTH));
     for (numbers, cell) in (&mut whole).zip(&mut cells) {
         take_part::<WIDTH>(*cell, 0, numbers);
