@@ -1,15 +1,29 @@
-//! Proved code and twin held against each other: the same answer, and the same store, tables and image afterwards. A difference stops the
-//! program. Calls that the twin does not have lead the proved code on, and the twin follows.
-use crate::calls::{is_done, Call, Lent, ABSENT};
+//! Proved code and twin held against each other: the same answer, and the same store, tables, image, list and place afterwards; and runs held
+//! against their single calls. A difference stops the program. Calls that the twin does not have lead the proved code on, and the twin follows.
+use crate::calls::{refusal, Call, Lent, Performer, ABSENT};
 use crate::chance::Chance;
 use crate::proved::{self, NOW};
-use crate::tables::{empty, file, filled, short, Content, CELLS, SEGMENTS};
-use crate::{damage, twin};
+use crate::starts::{crowded, files_near_limits, full_files, lent, one_file};
+use crate::tables::{empty, filled, short, CELLS};
+use crate::{damage, singles, twin};
 
 /// How often each answer was given by both: 0 is done, n is refused n.
 pub type Answers = [u32; 23];
-/// The answers that the twin can give.
+/// The answers that the twin can give to calls that are no runs; what can stop a run; what can after its first element.
 const TWINS: [usize; 12] = [0, 1, 2, 4, 5, 6, 7, 8, 9, 10, 20, 22];
+const STOPS: [usize; 11] = [0, 1, 2, 4, 5, 6, 7, 8, 9, 10, 20];
+const LATE_STOPS: [usize; 5] = [0, 7, 8, 9, 10];
+
+/// What the random calls were answered.
+#[derive(Default)]
+pub struct Heard {
+    /// Calls that are no runs.
+    pub calls: Answers,
+    /// What stopped the runs, 0 for nothing; and of those that came to an element.
+    pub runs: Answers,
+    pub late: Answers,
+    pub elements: u64,
+}
 
 /// The proved code makes the call, and so does the twin where it has it, each over its own cells, which must be the same afterwards. The answer, and
 /// whether the twin gave it too.
@@ -23,98 +37,105 @@ pub fn both(call: &Call, lent: &mut Lent, beside: &mut Lent) -> (u64, bool) {
     assert!(lent.tables == beside.tables, "proved code and twin leave different tables: {call:?}");
     assert!(lent.store == beside.store, "proved code and twin leave different stores: {call:?}");
     assert!(lent.image == beside.image, "proved code and twin leave different images: {call:?}");
+    assert!(lent.list == beside.list, "proved code and twin leave different lists: {call:?}");
+    assert_eq!(lent.place, beside.place, "proved code and twin put different numbers in the place: {call:?}");
     (answer, twins != ABSENT)
 }
 
-/// The same, counted. Whether it was done.
-fn counted(call: &Call, lent: &mut Lent, beside: &mut Lent, answers: &mut Answers) -> bool {
+/// A run answers and leaves what its single calls do, and what the twin does by their means.
+fn run_alike(run: &Call, stood: &Lent, answer: u64, after: &Lent) {
+    let others: [(&str, Performer); 2] =
+        [("its single calls", singles::perform), ("the twin by single calls' means", twin::perform_singly)];
+    for (who, perform) in others {
+        let mut lent = stood.clone();
+        assert_eq!(perform(run, &mut lent), answer, "a run and {who} answer differently: {run:?}");
+        assert_eq!(lent.place, after.place, "a run and {who} put different numbers in the place: {run:?}");
+        assert!(lent == *after, "a run and {who} leave different cells or lists: {run:?}");
+    }
+}
+
+/// The same as both, counted. Whether it was done.
+fn counted(call: &Call, lent: &mut Lent, beside: &mut Lent, heard: &mut Heard) -> bool {
+    let stood = call.single().map(|_| lent.clone());
     let (answer, twins) = both(call, lent, beside);
-    let refusal = if is_done(answer) { 0 } else { answer as u32 as usize };
-    assert!(refusal < answers.len(), "an answer that document 01 does not have: {answer}");
-    answers[refusal] += u32::from(twins);
-    is_done(answer)
-}
-
-fn lent(cells: usize, tables: Vec<u32>) -> Lent {
-    Lent {
-        store: (0..cells as u32).map(|cell| cell.wrapping_mul(0x9E37_79B9)).collect(),
-        tables,
-        image: vec![0; twin::IMAGE],
+    let refusal = refusal(call, answer, lent) as usize;
+    assert!(refusal < heard.calls.len(), "an answer that document 01 does not have: {answer}");
+    if let Some(stood) = stood {
+        run_alike(call, &stood, answer, lent);
+        let many = call.came_to(answer);
+        heard.runs[refusal] += 1;
+        heard.late[refusal] += u32::from(many > 0);
+        heard.elements += many;
+    } else {
+        heard.calls[refusal] += u32::from(twins);
     }
-}
-
-/// Every user has files "a" to "d" of 32 segments each, and no segment is free; or files near their limits, and some are.
-fn crowded(contents: impl Fn(u32) -> Content) -> Lent {
-    let mut tables = empty(SEGMENTS);
-    for place in 0..32 {
-        let mut name = [63; 12];
-        name[0] = 10 + place % 4;
-        file(&mut tables, place as usize, name, place / 4, contents(place));
-    }
-    lent(CELLS, tables)
-}
-
-fn full_files(place: u32) -> Content {
-    Content { species: 5, begin: 1, end: 1 + 32 * 64, first: 32 * place }
-}
-
-/// One element before 32 segments are full; one position before the positions are used up; one element; empty beyond the begin.
-fn files_near_limits(place: u32) -> Content {
-    let first = 32 * place;
-    match place % 4 {
-        0 => Content { species: 4, begin: 128, end: 128 * 32, first },
-        1 => Content { species: 3, begin: 16_777_000, end: 16_777_214, first },
-        2 => Content { species: place % 6, begin: 1, end: 2, first },
-        _ => Content { species: 1, begin: 2049, end: 2049, first },
-    }
+    refusal == 0
 }
 
 /// A history of so many calls; once in so many calls some are made over damaged cells, which are then forgotten.
-fn history(chance: &mut Chance, mut lent: Lent, calls: u32, damage: u32, answers: &mut Answers) {
+fn history(chance: &mut Chance, mut lent: Lent, calls: u32, damage: u32, heard: &mut Heard) {
     let mut beside = lent.clone();
     for _ in 0..calls {
-        let done = counted(&chance.call(&lent.tables), &mut lent, &mut beside, answers);
+        let done = counted(&chance.call(&lent.tables), &mut lent, &mut beside, heard);
         chance.heard(done);
         if chance.random.one_in(damage) {
-            over_damaged_tables(chance, lent.clone(), answers);
+            over_damaged_tables(chance, lent.clone(), heard);
         }
         if chance.random.one_in(damage) {
-            load_damaged_image(chance, lent.clone(), answers);
+            load_damaged_image(chance, lent.clone(), heard);
         }
     }
 }
 
-fn over_damaged_tables(chance: &mut Chance, mut lent: Lent, answers: &mut Answers) {
+fn over_damaged_tables(chance: &mut Chance, mut lent: Lent, heard: &mut Heard) {
     damage::tables(&mut chance.random, &mut lent);
     let mut beside = lent.clone();
     for _ in 0..3 {
-        counted(&chance.call(&lent.tables), &mut lent, &mut beside, answers);
+        counted(&chance.call(&lent.tables), &mut lent, &mut beside, heard);
     }
 }
 
-fn load_damaged_image(chance: &mut Chance, mut lent: Lent, answers: &mut Answers) {
+fn load_damaged_image(chance: &mut Chance, mut lent: Lent, heard: &mut Heard) {
     twin::perform(&Call::Save, &mut lent);
     damage::image(&mut chance.random, &mut lent.image);
     let mut beside = lent.clone();
-    counted(&Call::Load, &mut lent, &mut beside, answers);
+    counted(&Call::Load, &mut lent, &mut beside, heard);
 }
 
-/// Random histories over stores of several sizes, from empty and from crowded tables.
-pub fn histories() -> Answers {
-    let mut answers = [0; 23];
+fn runs_on_one_file(chance: &mut Chance, heard: &mut Heard) {
+    let (mut lent, at) = one_file(&mut chance.random);
+    assert!(twin::sound(&lent.tables, lent.store.len()), "runs begin on sound tables");
+    let mut beside = lent.clone();
+    for _ in 0..3 {
+        counted(&chance.run(at), &mut lent, &mut beside, heard);
+    }
+}
+
+/// Random histories over stores of several sizes, from empty and from crowded tables, and runs on files of any kind.
+pub fn histories() -> Heard {
+    let mut heard = Heard::default();
     let mut chance = Chance::new(1973);
     for cells in [64, 200, 640, CELLS] {
         let segments = (cells / 64) as u32;
-        history(&mut chance, lent(cells, empty(segments)), 25_000, 8, &mut answers);
+        history(&mut chance, lent(cells, empty(segments)), 25_000, 8, &mut heard);
     }
     for _ in 0..5 {
         for lent in [lent(CELLS, filled(64, short, 16)), crowded(full_files), crowded(files_near_limits)] {
-            history(&mut chance, lent, 3_000, 8, &mut answers);
+            history(&mut chance, lent, 3_000, 8, &mut heard);
         }
     }
-    let seldom = TWINS.iter().find(|&&answer| answers[answer] < 5);
-    assert!(seldom.is_none(), "too seldom among the random calls: answer {seldom:?} of {answers:?}");
-    answers
+    for _ in 0..5_000 {
+        runs_on_one_file(&mut chance, &mut heard);
+    }
+    often(&TWINS, &heard.calls);
+    often(&STOPS, &heard.runs);
+    often(&LATE_STOPS, &heard.late);
+    heard
+}
+
+fn often(answers: &[usize], heard: &Answers) {
+    let seldom = answers.iter().find(|&&answer| heard[answer] < 5);
+    assert!(seldom.is_none(), "too seldom among the random calls: answer {seldom:?} of {heard:?}");
 }
 
 /// Both must say the same of sound tables and of tables with one cell changed.

@@ -1,11 +1,12 @@
 //! The tables of times. All of them are measured several times over, in the same order, and each figure is the best of its passes: a moment in
 //! which the machine does something else then spoils no row.
-use crate::measure::Times;
+use crate::measure::Figures;
 
 /// A table's columns, or a row and its best times so far.
 enum Line {
     Heading(String),
-    Row(String, Times),
+    RunHeading(String),
+    Row(String, Figures),
 }
 
 #[derive(Default)]
@@ -21,19 +22,29 @@ impl Book {
         self.written = 0;
     }
 
-    /// A table begins, its first columns parted by bars.
+    /// A table of calls begins, its first columns parted by bars.
     pub fn heading(&mut self, columns: &str) {
-        if self.written == self.lines.len() {
-            self.lines.push(Line::Heading(columns.to_string()));
+        self.once(Line::Heading(columns.to_string()));
+    }
+
+    /// A table of runs begins likewise.
+    pub fn run_heading(&mut self, columns: &str) {
+        self.once(Line::RunHeading(columns.to_string()));
+    }
+
+    /// A row, its first columns parted by bars.
+    pub fn row(&mut self, columns: &str, figures: Figures) {
+        match self.lines.get_mut(self.written) {
+            Some(Line::Row(_, best)) => best.keep_least(&figures),
+            _ => self.lines.push(Line::Row(columns.to_string(), figures)),
         }
         self.written += 1;
     }
 
-    /// A row, its first columns parted by bars.
-    pub fn row(&mut self, columns: &str, times: Times) {
-        match self.lines.get_mut(self.written) {
-            Some(Line::Row(_, best)) => *best = best.least(times),
-            _ => self.lines.push(Line::Row(columns.to_string(), times)),
+    /// A line that is the same in every pass.
+    fn once(&mut self, line: Line) {
+        if self.written == self.lines.len() {
+            self.lines.push(line);
         }
         self.written += 1;
     }
@@ -45,39 +56,59 @@ impl Book {
         } else {
             "now ns | twin ns | now/twin"
         };
+        let of_runs = "twin, singly, ns | now/that | single call ns | run/single | ns an element";
         for line in &self.lines {
             match line {
-                Line::Heading(columns) => {
-                    let all = format!("{columns} | {figures}");
-                    let bars = all.split('|').map(|_| "---").collect::<Vec<_>>().join("|");
-                    println!("\n| {all} |\n|{bars}|");
-                }
-                Line::Row(columns, times) => println!("| {columns} | {} |", times.columns(has_earlier)),
+                Line::Heading(columns) => print_heading(&format!("{columns} | {figures}")),
+                Line::RunHeading(columns) => print_heading(&format!("{columns} | {figures} | {of_runs}")),
+                Line::Row(columns, figures) => println!("| {columns} | {} |", figures.columns(has_earlier).join(" | ")),
             }
         }
     }
 }
 
+pub fn print_heading(columns: &str) {
+    let bars = columns.split('|').map(|_| "---").collect::<Vec<_>>().join("|");
+    println!("\n| {columns} |\n|{bars}|");
+}
+
 /// A figure, or a dash where there is none.
-fn figure(number: f64, digits: usize) -> String {
+pub fn figure(number: f64, digits: usize) -> String {
     if number.is_finite() {
         return format!("{number:.digits$}");
     }
     "-".to_string()
 }
 
-impl Times {
-    fn least(self, other: Times) -> Times {
-        Times([0, 1, 2].map(|place| self.0[place].min(other.0[place])))
+/// How many times the second the first is, or a dash where one is missing.
+fn ratio(first: f64, second: f64) -> String {
+    figure(if second.is_finite() { first / second } else { second }, 2)
+}
+
+impl Figures {
+    fn keep_least(&mut self, other: &Figures) {
+        for (best, &time) in self.times.iter_mut().zip(&other.times) {
+            *best = best.min(time);
+        }
     }
 
-    fn columns(self, has_earlier: bool) -> String {
-        let [now, before, twin] = self.0;
-        let ratio = |to: f64| if to.is_finite() { figure(now / to, 2) } else { figure(to, 0) };
-        let [now, before_ns, twin_ns] = self.0.map(|time| figure(time, 0));
+    fn columns(&self, has_earlier: bool) -> Vec<String> {
+        let (now, before, twin) = (self.times[0], self.times[1], self.times[2]);
+        let mut columns = vec![figure(now, 0), figure(twin, 0), ratio(now, twin)];
         if has_earlier {
-            return format!("{now} | {before_ns} | {twin_ns} | {} | {}", ratio(before), ratio(twin));
+            columns.insert(1, figure(before, 0));
+            columns.insert(3, ratio(now, before));
         }
-        format!("{now} | {twin_ns} | {}", ratio(twin))
+        if let Some(elements) = self.elements {
+            columns.extend(self.of_run(elements));
+        }
+        columns
+    }
+
+    /// What is told of a run besides: an element's time is that of all but the first, which is the single call's.
+    fn of_run(&self, elements: usize) -> [String; 5] {
+        let (now, singly, single) = (self.times[0], self.times[3], self.times[4]);
+        let element = if elements > 1 { (now - single) / (elements - 1) as f64 } else { f64::INFINITY };
+        [figure(singly, 0), ratio(now, singly), figure(single, 0), ratio(now, single), figure(element, 2)]
     }
 }

@@ -1,10 +1,13 @@
 //! Random calls: all users and entries, numbers mostly in range and sometimes wild. They look at the tables, so that many of them are done.
-use crate::calls::{At, Call};
+use crate::calls::{At, Call, DELIVERED};
 use crate::random::Random;
 
 /// Names that the calls use again and again: of one symbol, of twelve, with blanks, empty ones.
 const NAMES: [&[u8]; 10] =
     [b"a", b"b", b"c", b"d", b"lift 7", b"0123456789ab", b"0123456789abcd", b" z\tz\nz", b"", b"Lift"];
+
+/// More than a segment of species 0 has.
+pub const LONGEST_RUN: u32 = 2_500;
 
 pub struct Chance {
     pub random: Random,
@@ -28,12 +31,14 @@ impl Chance {
             0..=1 => self.operators(),
             2..=24 => self.openings(tables),
             25..=34 => self.endings(tables),
-            35..=84 => self.accesses(tables),
+            35..=74 => self.accesses(tables),
+            75..=84 => self.runs(tables),
             _ => self.others(tables),
         };
         self.again = match call {
             Call::Write(..) | Call::Next(..) | Call::Prev(..) if self.random.one_in(3) => self.random.below(200),
             Call::Pointer(..) => self.random.below(4),
+            Call::WriteRun(..) | Call::FillRun(..) if self.random.one_in(3) => self.random.below(5),
             _ => 0,
         };
         self.last = call.clone();
@@ -129,6 +134,33 @@ impl Chance {
             6..=7 => Call::Next(at, self.pointer()),
             _ => Call::Prev(at, self.pointer()),
         }
+    }
+
+    /// None, one, some, as many as a sensor delivers, several hundred, more.
+    fn length(&mut self) -> u32 {
+        match self.random.below(8) {
+            0 => 0,
+            1 => 1,
+            2..=3 => self.random.below(DELIVERED),
+            4..=5 => DELIVERED,
+            6 => self.random.below(700),
+            _ => self.random.below(LONGEST_RUN + 1),
+        }
+    }
+
+    fn runs(&mut self, tables: &[u32]) -> Call {
+        let at = self.open(tables);
+        self.run(at)
+    }
+
+    /// A run at an entry.
+    pub fn run(&mut self, at: At) -> Call {
+        let pointer = if self.random.one_in(3) { 1 } else { self.pointer() };
+        let length = self.length();
+        if self.random.one_in(3) {
+            return Call::FillRun(at, pointer, length as usize);
+        }
+        Call::WriteRun(at, pointer, (0..length).map(|_| self.random.number() as u32).collect())
     }
 
     fn others(&mut self, tables: &[u32]) -> Call {

@@ -1,6 +1,6 @@
 //! What every call pays for, and what a call pays that takes a segment: soundness, the free count, the lowest free segment.
 use crate::book::Book;
-use crate::measure::{least, opaque, Turns};
+use crate::measure::{least, opaque, Figures, Turns};
 use crate::proved::{lengths_before, Build, BEFORE, NOW};
 use crate::tables::{compact, scattered, CELLS};
 use crate::twin;
@@ -55,7 +55,7 @@ fn row(book: &mut Book, what: &str, tables: &[u32], decision: Decision, twins: T
         earlier.map(|tables| again(tables, move |tables| decision(&BEFORE, tables, CELLS))),
         Some(again(tables, twins)),
     ]);
-    book.row(what, times);
+    book.row(what, Figures { times: times.to_vec(), elements: None });
 }
 
 pub fn write(book: &mut Book) {

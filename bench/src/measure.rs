@@ -1,5 +1,5 @@
 //! How long a call takes: this build, the earlier one and the twin by turns, the best of some rounds of each.
-use crate::calls::{is_done, refused, Call, Lent, Performer};
+use crate::calls::{refusal, Call, Lent, Performer};
 use crate::scenes::Scene;
 use crate::{agree, proved, twin};
 use std::time::Instant;
@@ -18,11 +18,14 @@ pub fn opaque<T>(value: T) -> T {
     value
 }
 
-/// The least nanoseconds of this build, the earlier one and the twin; infinitely many where there is nothing to measure.
-#[derive(Clone, Copy)]
-pub struct Times(pub [f64; 3]);
+/// The least nanoseconds of this build, the earlier one and the twin; infinitely many where there is nothing to measure. Of a run, which is
+/// known by how many elements it has, also those of the twin by single calls' means, and of one single call by this build.
+pub struct Figures {
+    pub times: Vec<f64>,
+    pub elements: Option<usize>,
+}
 
-/// Makes so many turns.
+/// Makes so many turns. Asked for none, it gets ready for the next, which is not timed.
 pub type Turns<'a> = Box<dyn FnMut(u64) + 'a>;
 
 /// One whose turns are timed: how many fill a round, and the least time of one.
@@ -41,23 +44,25 @@ impl<'a> Runner<'a> {
     }
 
     fn round(&mut self) {
+        (self.make)(0);
         let start = Instant::now();
         (self.make)(self.turns);
         self.least = self.least.min(start.elapsed().as_nanos() as f64 / self.turns as f64);
     }
 }
 
-/// Round after round each has its turns, another one first each time: what slows the machine down for a while slows all of them down.
-pub fn least(makers: [Option<Turns>; 3]) -> Times {
+/// The least nanoseconds of each. Round after round each has its turns, another one first each time: what slows the machine down for a while slows
+/// all of them down.
+pub fn least<const N: usize>(makers: [Option<Turns>; N]) -> [f64; N] {
     let mut runners = makers.map(|make| make.map(Runner::new));
     for first in 0..asked("ROUNDS", ROUNDS) {
-        for place in 0..runners.len() {
-            if let Some(runner) = &mut runners[(first + place) % 3] {
+        for place in 0..N {
+            if let Some(runner) = &mut runners[(first + place) % N] {
                 runner.round();
             }
         }
     }
-    Times(runners.map(|runner| runner.map_or(f64::INFINITY, |runner| runner.least)))
+    runners.map(|runner| runner.map_or(f64::INFINITY, |runner| runner.least))
 }
 
 /// The cells that differ, as they are in the first tables.
@@ -67,7 +72,7 @@ fn differing(before: &[u32], after: &[u32]) -> Vec<(usize, u32)> {
 }
 
 /// Makes a call again and again. The cells that it changes in the tables are put back by hand after each, in the measured time.
-fn again<'a>(perform: Performer, call: &'a Call, mut lent: Lent) -> Turns<'a> {
+pub fn again<'a>(perform: Performer, call: &'a Call, mut lent: Lent) -> Turns<'a> {
     let mut after = lent.clone();
     perform(call, &mut after);
     let back = differing(&lent.tables, &after.tables);
@@ -81,16 +86,46 @@ fn again<'a>(perform: Performer, call: &'a Call, mut lent: Lent) -> Turns<'a> {
     })
 }
 
-/// A call on a scene, which must be done, or refused so. The earlier build is left out where it answers otherwise, the twin where it does not have the call.
-pub fn call(scene: &Scene, call: &Call, refusal: Option<u32>) -> Times {
-    let expected = |answer: u64| refusal.map_or(is_done(answer), |number| answer == refused(number));
+/// What the earlier build finds, where it answers so.
+fn earlier(scene: &Scene, call: &Call, number: u32) -> Option<Lent> {
+    scene.before().filter(|lent| {
+        let mut after = lent.clone();
+        let answer = proved::before(call, &mut after);
+        refusal(call, answer, &after) == number
+    })
+}
+
+/// What this build finds, where it must answer so, and whether the twin has the call.
+fn now(scene: &Scene, call: &Call, number: u32) -> (Lent, bool) {
     let lent = scene.now();
-    let (answer, twins) = agree::both(call, &mut lent.clone(), &mut lent.clone());
-    assert!(expected(answer), "not the answer to be measured: {call:?}");
-    let earlier = scene.before().filter(|lent| expected(proved::before(call, &mut lent.clone())));
-    least([
+    let mut after = lent.clone();
+    let (answer, twins) = agree::both(call, &mut after, &mut lent.clone());
+    assert_eq!(refusal(call, answer, &after), number, "not the answer to be measured: {call:?}");
+    (lent, twins)
+}
+
+/// A call on a scene, which must be done, or refused so. The earlier build is left out where it answers otherwise, the twin where it does not have the call.
+pub fn call(scene: &Scene, call: &Call, refused: Option<u32>) -> Figures {
+    let number = refused.unwrap_or(0);
+    let (lent, twins) = now(scene, call, number);
+    let times = least([
         Some(again(proved::now, call, lent.clone())),
-        earlier.map(|lent| again(proved::before, call, lent)),
+        earlier(scene, call, number).map(|lent| again(proved::before, call, lent)),
         twins.then(|| again(twin::perform, call, lent)),
-    ])
+    ]);
+    Figures { times: times.to_vec(), elements: None }
+}
+
+/// A run on a scene, all of whose elements must be done, and by turns with it the first of its single calls.
+pub fn run(scene: &Scene, run: &Call, elements: usize) -> Figures {
+    let single = run.single().expect("a run");
+    let (lent, _) = now(scene, run, 0);
+    let times = least([
+        Some(again(proved::now, run, lent.clone())),
+        earlier(scene, run, 0).map(|lent| again(proved::before, run, lent)),
+        Some(again(twin::perform, run, lent.clone())),
+        Some(again(twin::perform_singly, run, lent.clone())),
+        Some(again(proved::now, &single, lent)),
+    ]);
+    Figures { times: times.to_vec(), elements: Some(elements) }
 }

@@ -37,7 +37,7 @@ macro_rules! exports {
     };
 }
 
-/// Cells, elements or bytes that are read, and cells that are written; a length follows each.
+/// Cells, elements or bytes that are read, and cells or elements that are written; a length follows each but a run's place, which is one cell.
 type Read<T> = *const T;
 type Write = *mut u32;
 
@@ -60,6 +60,8 @@ exports! {
     next(Read<u32>, usize, Write, usize, u32, u32, u32) -> u64;
     prev(Read<u32>, usize, Write, usize, u32, u32, u32) -> u64;
     value(Read<u32>, usize, Read<u32>, usize, u32, u32, u32) -> u64;
+    write_run(Write, usize, Write, usize, u32, u32, u32, Read<u32>, usize, Write) -> u64;
+    fill_run(Read<u32>, usize, Write, usize, u32, u32, u32, Write, usize, Write) -> u64;
     measure_sound(Read<u32>, usize, usize) -> u32;
     measure_free_count(Read<u32>, usize, usize) -> u32;
     measure_lowest_free(Read<u32>, usize, usize) -> u32;
@@ -87,7 +89,7 @@ impl Build {
     }
 
     fn perform(&self, call: &Call, lent: &mut Lent) -> u64 {
-        let Lent { store, tables, image } = lent;
+        let Lent { store, tables, image, list, place } = lent;
         macro_rules! door {
             (const $name:ident $(, $more:expr)*) => {
                 unsafe { (self.$name)(store.as_ptr(), store.len(), tables.as_ptr(), tables.len() $(, $more)*) }
@@ -115,6 +117,13 @@ impl Build {
             Call::Next((user, entry), pointer) => door!(mut next, user, entry, pointer),
             Call::Prev((user, entry), pointer) => door!(mut prev, user, entry, pointer),
             Call::Value((user, entry), pointer) => door!(const value, user, entry, pointer),
+            Call::WriteRun((user, entry), pointer, ref list) => {
+                door!(both write_run, user, entry, pointer, list.as_ptr(), list.len(), place)
+            }
+            Call::FillRun((user, entry), pointer, length) => {
+                let list = &mut list[..length];
+                door!(mut fill_run, user, entry, pointer, list.as_mut_ptr(), list.len(), place)
+            }
         }
     }
 }

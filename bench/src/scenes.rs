@@ -7,6 +7,10 @@ use crate::{proved, twin};
 pub const HERE: At = (0, 0);
 /// Of each record, but on the full store.
 const HELD: u32 = 15;
+/// Segments between the records' and the open file's, for other openings or to be taken.
+const LEFT_FREE: u32 = 31;
+/// The longest run that is measured.
+pub const LONGEST_RUN: usize = 60_000;
 
 /// The name of the record at place 0, user 0's.
 pub fn own() -> Vec<u8> {
@@ -21,7 +25,11 @@ pub struct Scene {
 
 impl Scene {
     fn of(tables: Vec<u32>) -> Scene {
-        Scene { lent: Lent { store: vec![0; CELLS], tables, image: vec![0; twin::IMAGE] }, first: vec![] }
+        let list = vec![0; LONGEST_RUN];
+        Scene {
+            lent: Lent { store: vec![0; CELLS], tables, image: vec![0; twin::IMAGE], list, place: 0 },
+            first: vec![],
+        }
     }
 
     /// The same after these calls.
@@ -60,13 +68,19 @@ pub fn full() -> Scene {
     Scene::of(filled(64, short, 16))
 }
 
+/// Beside the records a new file with this begin, where its work pointer stands, and end.
+pub fn open_between(number: usize, species: u32, begin: u32, end: u32) -> Scene {
+    let mut tables = filled(number, short, HELD);
+    open_new(&mut tables, 0, Content { species, begin, end, first: HELD * number as u32 + LEFT_FREE });
+    Scene::of(tables)
+}
+
 /// Beside the records a new file of so many elements of a species, and so many other openings, new files of one element each.
 pub fn open_file(number: usize, species: u32, elements: u32, others: usize) -> Scene {
-    let mut tables = filled(number, short, HELD);
-    let free = HELD * number as u32;
-    open_new(&mut tables, 0, Content { species, begin: 1, end: 1 + elements, first: free + 31 });
+    let mut scene = open_between(number, species, 1, 1 + elements);
     for entry in 1..1 + others {
-        open_new(&mut tables, entry, Content { species, begin: 1, end: 2, first: free + entry as u32 - 1 });
+        let first = HELD * number as u32 + entry as u32 - 1;
+        open_new(&mut scene.lent.tables, entry, Content { species, begin: 1, end: 2, first });
     }
-    Scene::of(tables)
+    scene
 }

@@ -5,7 +5,7 @@ use crate::twin::TABLES;
 pub const CELLS: usize = 65_536;
 pub const SEGMENTS: u32 = 1024;
 /// E of species 0 to 5.
-const ELEMENTS: [u32; 6] = [2048, 1024, 512, 256, 128, 64];
+pub const ELEMENTS: [u32; 6] = [2048, 1024, 512, 256, 128, 64];
 
 /// A file: its species, its begin and end, and the first of its segments, which follow each other.
 #[derive(Clone, Copy)]
@@ -17,11 +17,17 @@ pub struct Content {
 }
 
 impl Content {
-    fn segments(self) -> impl Iterator<Item = u32> {
+    /// How many segments the file holds.
+    pub fn held(self) -> u32 {
         let per_segment = ELEMENTS[self.species as usize];
-        let stretches =
-            if self.begin == self.end { 0 } else { (self.end - 2) / per_segment + 1 - (self.begin - 1) / per_segment };
-        self.first..self.first + stretches
+        if self.begin == self.end {
+            return 0;
+        }
+        (self.end - 2) / per_segment + 1 - (self.begin - 1) / per_segment
+    }
+
+    fn segments(self) -> impl Iterator<Item = u32> {
+        self.first..self.first + self.held()
     }
 }
 
@@ -79,7 +85,7 @@ pub fn open_new(tables: &mut [u32], entry: usize, content: Content) {
 }
 
 /// A read opening of the record at a place.
-fn reading(tables: &mut [u32], entry: usize, place: usize) {
+pub fn reading(tables: &mut [u32], entry: usize, place: usize) {
     let filed: Vec<u32> = tables[1 + 50 * place..51 + 50 * place].to_vec();
     let cells = &mut tables[3201 + 56 * entry..3257 + 56 * entry];
     cells[..4].copy_from_slice(&[1, place as u32 + 1, 0, filed[15]]);

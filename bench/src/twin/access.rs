@@ -1,14 +1,14 @@
 //! Next, prev, and the value of a pointer.
 use super::layout::{self, opening, Opening};
 use super::openings::{self, drop_first, drop_last};
-use super::placing::{element, stretch};
+use super::placing::{element, offset, segment, stretch};
 use super::{gate, Answer, Refusal};
 
 /// The element at a position of the file.
 fn delivered(store: &[u32], cells: &Opening, position: u32) -> u32 {
     let species = cells[opening::SPECIES];
     let place = stretch(species, position) - stretch(species, cells[opening::BEGIN]);
-    element(store, species, cells[opening::SEGMENTS][place as usize], position)
+    element(segment(store, cells[opening::SEGMENTS][place as usize]), species, offset(species, position))
 }
 
 /// The one inquiry here: each is the gate and a look.
@@ -19,12 +19,9 @@ pub fn value(store: &[u32], tables: &[u32], user: u32, entry: u32, pointer: u32)
 
 /// "Next: v < b is 6, v >= e is 7. Delivers position v, v grows. Through 0 the element leaves the file."
 pub fn next(store: &[u32], tables: &mut [u32], user: u32, entry: u32, pointer: u32) -> Answer {
-    let at = gate::open_entry(store, tables, user, entry)?;
+    let at = gate::pointer(store, tables, user, entry, pointer, pointer == 0)?;
     let cells = layout::opening_mut(tables, at);
-    let value = openings::value(cells, pointer)?;
-    if pointer == 0 && cells[opening::PERMIT] == 0 {
-        return Err(Refusal::Permit);
-    }
+    let value = cells[opening::POINTERS + pointer as usize];
     if value < cells[opening::BEGIN] {
         return Err(Refusal::Below);
     }
@@ -33,7 +30,7 @@ pub fn next(store: &[u32], tables: &mut [u32], user: u32, entry: u32, pointer: u
     }
     let element = delivered(store, cells, value);
     if pointer == 0 {
-        drop_first(cells);
+        drop_first(cells, 1);
     } else {
         cells[opening::POINTERS + pointer as usize] = value + 1;
     }
@@ -42,12 +39,9 @@ pub fn next(store: &[u32], tables: &mut [u32], user: u32, entry: u32, pointer: u
 
 /// "Prev: v <= b is 6, v > e is 7. v falls by 1, delivers that position. Through 1 the element leaves the file."
 pub fn prev(store: &[u32], tables: &mut [u32], user: u32, entry: u32, pointer: u32) -> Answer {
-    let at = gate::open_entry(store, tables, user, entry)?;
+    let at = gate::pointer(store, tables, user, entry, pointer, pointer == 1)?;
     let cells = layout::opening_mut(tables, at);
-    let value = openings::value(cells, pointer)?;
-    if pointer == 1 && cells[opening::PERMIT] == 0 {
-        return Err(Refusal::Permit);
-    }
+    let value = cells[opening::POINTERS + pointer as usize];
     if value <= cells[opening::BEGIN] {
         return Err(Refusal::Below);
     }

@@ -18,7 +18,9 @@ fn lists(tables: &[u32]) -> impl Iterator<Item = &[u32]> {
 }
 
 /// 1 for each segment that is listed.
-fn listed(tables: &[u32]) -> [u8; MOST_SEGMENTS as usize] {
+pub type Listed = [u8; MOST_SEGMENTS as usize];
+
+pub fn listed(tables: &[u32]) -> Listed {
     let mut listed = [0; MOST_SEGMENTS as usize];
     lists(tables).for_each(|list| {
         for &segment in list {

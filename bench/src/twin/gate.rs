@@ -1,5 +1,6 @@
-//! The refusals before a call's own: "Order: 20, 1, 2".
+//! The refusals before a call's own: "Order: 20, 1, 2", "for a pointer call 4, 5".
 use super::layout::{self, opening};
+use super::openings::value;
 use super::soundness::sound;
 use super::Refusal;
 
@@ -23,6 +24,24 @@ pub fn open_entry(store: &[u32], tables: &[u32], user: u32, entry: u32) -> Resul
     let at = 4 * user + entry as usize;
     if layout::opening(tables, at)[opening::OPEN] == 0 {
         return Err(Refusal::Entry);
+    }
+    Ok(at)
+}
+
+/// An open entry that has the pointer, and the work permit where that is needed. A run of no element is judged by this too.
+pub fn pointer(
+    store: &[u32],
+    tables: &[u32],
+    user: u32,
+    entry: u32,
+    pointer: u32,
+    needs_permit: bool,
+) -> Result<usize, Refusal> {
+    let at = open_entry(store, tables, user, entry)?;
+    let cells = layout::opening(tables, at);
+    value(cells, pointer)?;
+    if needs_permit && cells[opening::PERMIT] == 0 {
+        return Err(Refusal::Permit);
     }
     Ok(at)
 }

@@ -1,20 +1,24 @@
-//! What the measured calls cost in plain Rust, with nothing proved: soundness, free segments, write, next, prev, one inquiry, save and load, by document 01's
-//! rules over the same cells.
+//! What the measured calls cost in plain Rust, with nothing proved: soundness, free segments, write, next, prev, runs of them, one inquiry, save and load, by
+//! the rules of documents 01 and 02 over the same cells.
 mod access;
 mod free;
 mod gate;
 mod image;
-mod layout;
+pub mod layout;
+mod means;
 mod openings;
+mod packing;
 mod perform;
 mod placing;
+mod runs;
 mod soundness;
 mod write;
 
 pub use free::{free_count, lowest_free, lowest_free_by_search};
 pub use image::IMAGE;
 pub use layout::TABLES;
-pub use perform::perform;
+pub use perform::{perform, perform_singly};
+pub use placing::GREATEST_END;
 pub use soundness::sound;
 
 /// "The numbers a refusal carries"

@@ -1,6 +1,6 @@
 //! What next, prev and write do with an opening's cells.
 use super::layout::{opening, Opening};
-use super::placing::held;
+use super::placing::{held, MOST_HELD};
 use super::Refusal;
 
 /// The value of a pointer that exists.
@@ -19,14 +19,15 @@ pub fn holds(cells: &Opening) -> usize {
     held(cells[opening::SPECIES], cells[opening::BEGIN], cells[opening::END]) as usize
 }
 
-/// The first element leaves the file, and so does its segment where it was the only one there.
-pub fn drop_first(cells: &mut Opening) {
+/// The first elements leave the file, and so do the segments where no other is.
+pub fn drop_first(cells: &mut Opening, many: u32) {
     let before = holds(cells);
-    cells[opening::BEGIN] += 1;
-    if holds(cells) < before {
+    cells[opening::BEGIN] += many;
+    let left = before - holds(cells);
+    if left > 0 {
         let list = &mut cells[opening::SEGMENTS];
-        list.copy_within(1.., 0);
-        list[31] = 0;
+        list.copy_within(left.., 0);
+        list[MOST_HELD as usize - left..].fill(0);
     }
 }
 

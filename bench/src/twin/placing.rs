@@ -15,6 +15,15 @@ fn elements_log(species: u32) -> u32 {
     11 - species
 }
 
+/// How many elements a position's stretch has before it, o, and how many from it on.
+pub fn offset(species: u32, position: u32) -> u32 {
+    (position - 1) & ((1 << elements_log(species)) - 1)
+}
+
+pub fn rest_of_stretch(species: u32, position: u32) -> u32 {
+    (1 << elements_log(species)) - offset(species, position)
+}
+
 /// "Position x lies in the file's stretch floor((x-1)/E)"
 pub fn stretch(species: u32, position: u32) -> u32 {
     (position - 1) >> elements_log(species)
@@ -28,7 +37,20 @@ pub fn held(species: u32, begin: u32, end: u32) -> u32 {
     stretch(species, end - 1) - stretch(species, begin) + 1
 }
 
-/// An element in the store: the cell, how far the element stands above the cell's lowest bit, and the bits of its width.
+/// The cells of a segment in the store.
+pub type Segment = [u32; SEGMENT_CELLS];
+
+pub fn segment(store: &[u32], number: u32) -> &Segment {
+    let from = number as usize * SEGMENT_CELLS;
+    store[from..from + SEGMENT_CELLS].try_into().unwrap()
+}
+
+pub fn segment_mut(store: &mut [u32], number: u32) -> &mut Segment {
+    let from = number as usize * SEGMENT_CELLS;
+    (&mut store[from..from + SEGMENT_CELLS]).try_into().unwrap()
+}
+
+/// An element in its segment: the cell, how far the element stands above the cell's lowest bit, and the bits of its width.
 struct Seat {
     cell: usize,
     above: u32,
@@ -36,24 +58,24 @@ struct Seat {
 }
 
 /// "it is in cell floor(o·w/32) of that stretch's segment, its top bit (o·w mod 32) bits below the cell's top bit"
-fn seat(species: u32, segment: u32, position: u32) -> Seat {
-    let offset = (position - 1) & ((1 << elements_log(species)) - 1);
+fn seat(species: u32, offset: u32) -> Seat {
     let bits = offset * width(species);
     Seat {
-        cell: segment as usize * SEGMENT_CELLS + bits as usize / 32,
+        // no offset of a segment is past its cells, and so the compiler knows it
+        cell: bits as usize / 32 % SEGMENT_CELLS,
         above: 32 - width(species) - bits % 32,
         mask: u32::MAX >> (32 - width(species)),
     }
 }
 
-pub fn element(store: &[u32], species: u32, segment: u32, position: u32) -> u32 {
-    let seat = seat(species, segment, position);
-    store[seat.cell] >> seat.above & seat.mask
+pub fn element(cells: &Segment, species: u32, offset: u32) -> u32 {
+    let seat = seat(species, offset);
+    cells[seat.cell] >> seat.above & seat.mask
 }
 
 /// "A written number too wide for the species loses its top bits"
-pub fn put_element(store: &mut [u32], species: u32, segment: u32, position: u32, number: u32) {
-    let seat = seat(species, segment, position);
-    let cell = &mut store[seat.cell];
+pub fn put_element(cells: &mut Segment, species: u32, offset: u32, number: u32) {
+    let seat = seat(species, offset);
+    let cell = &mut cells[seat.cell];
     *cell = *cell & !(seat.mask << seat.above) | (number & seat.mask) << seat.above;
 }

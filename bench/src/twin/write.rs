@@ -1,29 +1,36 @@
 //! Write.
 use super::free::lowest_free;
 use super::layout::{self, opening, record, Opening};
-use super::openings::{drop_first, holds, value};
-use super::placing::{held, put_element, stretch, GREATEST_END, MOST_HELD, SEGMENT_CELLS};
+use super::openings::{drop_first, holds};
+use super::placing::{held, offset, put_element, segment_mut, stretch, GREATEST_END, MOST_HELD, SEGMENT_CELLS};
 use super::{gate, Answer, Refusal};
 
 /// "Write: v < b is 6; p not 1 and v >= e is 7. Through 1: append, e grows by 1. Through 0: the first element is dropped, no
 /// segment is taken and no store cell changes. Else position v is replaced. v grows by 1."
 pub fn write(store: &mut [u32], tables: &mut [u32], user: u32, entry: u32, pointer: u32, number: u32) -> Answer {
-    let at = gate::open_entry(store, tables, user, entry)?;
-    let cells = layout::opening(tables, at);
-    let (species, begin, end) = (cells[opening::SPECIES], cells[opening::BEGIN], cells[opening::END]);
-    let value = value(cells, pointer)?;
-    if cells[opening::PERMIT] == 0 {
-        return Err(Refusal::Permit);
+    let at = gate::pointer(store, tables, user, entry, pointer, true)?;
+    let value = position(layout::opening(tables, at), pointer)?;
+    if pointer == 0 {
+        drop_first(layout::opening_mut(tables, at), 1);
+        return Ok(0);
     }
+    let segment = segment_for(store, tables, at, value, lowest_free)?;
+    let cells = layout::opening_mut(tables, at);
+    let species = cells[opening::SPECIES];
+    put_element(segment_mut(store, segment), species, offset(species, value), number);
+    cells[opening::POINTERS + pointer as usize] = value + 1;
+    Ok(0)
+}
+
+/// The position to be written through a pointer that the opening has, unless it is refused: "6, 7, 10, 8".
+pub fn position(cells: &Opening, pointer: u32) -> Answer {
+    let (species, begin, end) = (cells[opening::SPECIES], cells[opening::BEGIN], cells[opening::END]);
+    let value = cells[opening::POINTERS + pointer as usize];
     if value < begin {
         return Err(Refusal::Below);
     }
     if pointer != 1 && value >= end {
         return Err(Refusal::Beyond);
-    }
-    if pointer == 0 {
-        drop_first(layout::opening_mut(tables, at));
-        return Ok(0);
     }
     if pointer == 1 && end == GREATEST_END {
         return Err(Refusal::Positions);
@@ -31,14 +38,17 @@ pub fn write(store: &mut [u32], tables: &mut [u32], user: u32, entry: u32, point
     if pointer == 1 && held(species, begin, end + 1) > MOST_HELD {
         return Err(Refusal::Segments);
     }
-    let segment = segment_for(store, tables, at, value)?;
-    put_element(store, species, segment, value, number);
-    layout::opening_mut(tables, at)[opening::POINTERS + pointer as usize] = value + 1;
-    Ok(0)
+    Ok(value)
 }
 
 /// The opening's own segment for a position: held, or taken and zeroed, or taken and copied.
-fn segment_for(store: &mut [u32], tables: &mut [u32], at: usize, position: u32) -> Answer {
+pub fn segment_for(
+    store: &mut [u32],
+    tables: &mut [u32],
+    at: usize,
+    position: u32,
+    lowest_free: impl FnOnce(&[u32]) -> Option<u32>,
+) -> Answer {
     let cells = layout::opening(tables, at);
     let species = cells[opening::SPECIES];
     let place = (stretch(species, position) - stretch(species, cells[opening::BEGIN])) as usize;

@@ -1,0 +1,112 @@
+//! What random histories and runs begin on.
+use crate::calls::{At, Lent};
+use crate::chance::LONGEST_RUN;
+use crate::random::Random;
+use crate::tables::{empty, file, open_new, reading, short, Content, CELLS, ELEMENTS, SEGMENTS};
+use crate::twin::layout::{opening, opening_mut};
+use crate::twin::{GREATEST_END, IMAGE};
+
+pub fn lent(cells: usize, tables: Vec<u32>) -> Lent {
+    Lent {
+        store: (0..cells as u32).map(|cell| cell.wrapping_mul(0x9E37_79B9)).collect(),
+        tables,
+        image: vec![0; IMAGE],
+        list: (0..LONGEST_RUN).collect(),
+        place: 0,
+    }
+}
+
+/// Every user has files "a" to "d" of 32 segments each, and no segment is free; or files near their limits, and some are.
+pub fn crowded(contents: impl Fn(u32) -> Content) -> Lent {
+    let mut tables = empty(SEGMENTS);
+    for place in 0..32 {
+        let mut name = [63; 12];
+        name[0] = 10 + place % 4;
+        file(&mut tables, place as usize, name, place / 4, contents(place));
+    }
+    lent(CELLS, tables)
+}
+
+pub fn full_files(place: u32) -> Content {
+    Content { species: 5, begin: 1, end: 1 + 32 * 64, first: 32 * place }
+}
+
+/// One element before 32 segments are full; one position before the positions are used up; one element; empty beyond the begin.
+pub fn files_near_limits(place: u32) -> Content {
+    let first = 32 * place;
+    match place % 4 {
+        0 => Content { species: 4, begin: 128, end: 128 * 32, first },
+        1 => Content { species: 3, begin: 16_777_000, end: 16_777_214, first },
+        2 => Content { species: place % 6, begin: 1, end: 2, first },
+        _ => Content { species: 1, begin: 2049, end: 2049, first },
+    }
+}
+
+/// An entry has a file open that begins anywhere: a new one, or one that it works on or reads.
+pub fn one_file(random: &mut Random) -> (Lent, At) {
+    let entry = random.below(32);
+    let (content, neighbour) = (any_content(random), random.below(20));
+    let own = if content.begin < content.end { random.below(content.held() + 1) } else { 0 };
+    let free = if random.one_in(2) { random.below(4) } else { random.below(40) };
+    let used = content.held() + own + neighbour;
+    let first = if random.one_in(2) { free } else { 0 };
+    let mut tables = empty((used + free).max(1));
+    let content = Content { first, ..content };
+    match random.below(8) {
+        0..=3 => open_new(&mut tables, entry as usize, content),
+        4 => read_record(&mut tables, entry, content),
+        _ => work_record(&mut tables, entry, content, own),
+    }
+    let others = Content { species: 5, begin: 1, end: 1 + 64 * neighbour, first: first + content.held() + own };
+    open_new(&mut tables, (entry as usize + 1) % 32, others);
+    put_pointers(random, &mut opening_mut(&mut tables, entry as usize)[opening::WORK_AND_OWN], content);
+    (lent(64 * tables[0] as usize + random.below(64) as usize, tables), (entry / 4, entry % 4))
+}
+
+/// A file of no, a few or nearly all 32 segments, often near the end of its last one, sometimes near the end of all positions.
+fn any_content(random: &mut Random) -> Content {
+    let species = random.below(6);
+    let per_segment = ELEMENTS[species as usize];
+    let begin = match random.below(4) {
+        0 => 1,
+        1 => GREATEST_END - random.below(2 * per_segment),
+        _ => 1 + random.below(GREATEST_END),
+    };
+    let held = match random.below(4) {
+        0 => 0,
+        1 => 31 + random.below(2),
+        _ => 1 + random.below(5),
+    };
+    let full = ((begin - 1) / per_segment + held) * per_segment + 1;
+    let missing = if random.one_in(2) { random.below(50) } else { random.below(per_segment) };
+    let end = full.saturating_sub(missing).clamp(begin, GREATEST_END);
+    Content { species, begin, end, first: 0 }
+}
+
+fn read_record(tables: &mut [u32], entry: u32, content: Content) {
+    file(tables, 0, short(0), entry / 4, content);
+    reading(tables, entry as usize, 0);
+}
+
+/// The opening has so many first segments of its own, which follow the record's.
+fn work_record(tables: &mut [u32], entry: u32, content: Content, own: u32) {
+    read_record(tables, entry, content);
+    let cells = opening_mut(tables, entry as usize);
+    cells[opening::PERMIT] = 1;
+    let segments = content.first + content.held()..;
+    for (cell, segment) in cells[opening::SEGMENTS].iter_mut().zip(segments).take(own as usize) {
+        *cell = segment;
+    }
+}
+
+/// The work pointer and own ones, or 0 for one that is not there: in the file, just before it or after it.
+fn put_pointers(random: &mut Random, pointers: &mut [u32], content: Content) {
+    for (place, pointer) in pointers.iter_mut().enumerate() {
+        let value = match random.below(6) {
+            0 => content.begin.saturating_sub(1 + random.below(3)),
+            1 => content.end + random.below(3),
+            _ => content.begin + random.below(content.end - content.begin + 1),
+        };
+        *pointer = if place > 0 && random.one_in(3) { 0 } else { value.clamp(1, GREATEST_END) };
+    }
+}
