@@ -1,4 +1,4 @@
-use Rattle.history_desk.specs.Laws.{lent-calls}
+use Rattle.history_desk.specs.Speaking.{lent-calls}
 use borrow.Author.Needs.{needs}
 use Rattle.history_desk.proofs.call.Statement.{statement}
 use Rattle.history_desk.proofs.call.Tie as tie

@@ -1,7 +1,7 @@
 use Rattle.history_desk.specs.Speaking.{test-lines}
 use borrow.Author.Needs.{needs}
-use Rattle.history_desk.proofs.test_line.Statement.{statement}
-use Rattle.history_desk.proofs.test_line.Tie as tie
+use Rattle.history_desk.proofs.tests.test_line.Statement.{statement}
+use Rattle.history_desk.proofs.tests.test_line.Tie as tie
 
 returns : tie.Need-returns
 returns c = search test-lines
