@@ -51,7 +51,7 @@ pub ruleset fars = (one-ahead, far-first, far-other)
 -- ---- one after another
 
 module _ (s : List ℕ) (k : ℕ) (g : Segment) (v many : ℕ) where
-  length-taken : length (taken s k g v many) ≡ many
+  pub length-taken : length (taken s k g v many) ≡ many
   unfolding taken
   length-taken = length-tab many (λ j. elementAt s k g (position (v + j)))
 

@@ -1,3 +1,4 @@
+-- `run_takes::take_all` meets its contract: the first `n` elements are in the list. Assumes nothing.
 use borrow.Author.Needs.{needs}
 use Prim.Native.Nat.{_≤_, _-_}
 use mathlib.Core.Path.{_≡_}

@@ -1,0 +1,2 @@
+-- The call that fills a list by next. Assumes nothing.
+pub mod Turned
