@@ -68,11 +68,11 @@ module _ (s : List ℕ) (k : ℕ) (g : Segment) (v many : ℕ) where
     take-starts = record { list = paste-zero l place (taken s k g v many) }
 
     module _ (l′ : List ℕ) (n : ℕ) (w : Taking l′ n) where
-      pub take-turn : place + many ≤ length l → n < many → (x : Position) (e : ℕ) → x .0 ≡ v + n → e ≡ elementAt s k g x → Taking (set l′ (place + n) e) (n + 1)
-      take-turn fits h x e ex ee =
+      pub take-turn : place + many ≤ length l → n < many → (x : Position) (e : ℕ) (l″ : List ℕ) → x .0 ≡ v + n → e ≡ elementAt s k g x → l″ ≡ set l′ (place + n) e → Taking l″ (n + 1)
+      take-turn fits h x e l″ ex ee el =
           let told : e ≡ getD (taken s k g v many) n 0 = ee ∙ ap (λ (y : ℕ). elementAt s k g (position y)) ex ∙ sym (taken-at n h) in
           record {
-            list = (λ j. set (w .list j) (place + n) (told j)) ∙ paste-suc l place (taken s k g v many) n 0 (omega arith) (omega (arith, length-taken))
+            list = el ∙ (λ j. set (w .list j) (place + n) (told j)) ∙ paste-suc l place (taken s k g v many) n 0 (omega arith) (omega (arith, length-taken))
                 ∙ ap (paste l place (taken s k g v many)) (sym (add-one n));
           }
 

@@ -1,7 +1,7 @@
 // The elements that a run takes from one stretch: how many, and they are taken.
 ghost use mathlib.Core.Path.{_≡_};
 ghost use Prim.Native.Nat.{_+_, _*_, _≤_, _<_};
-ghost use lib.ListN.{length};
+ghost use lib.ListN.{length, set};
 ghost use lib.Seq.{paste};
 ghost use Rattle.placing.specs.Sizes.{segmentCells, greatestEnd, greatestSpecies, tablesLength, entries};
 ghost use Rattle.tables.specs.Fields.{valueOf};
@@ -25,6 +25,14 @@ pub fn how_far(opening: Opening, pointer: u32, left: usize) -> usize
     run_spans::fewer(most, left)
 }
 
+// A place of a list gets an element; the others stay as they were.
+fn fill_place(list: &mut [u32], place: usize, element: u32)
+    requires { ⌜ place < length (now list) ⌝ }
+    ensures { λ _. ⌜ now (list .exit) ≡ set (now (list .entry)) place element ⌝ }
+{
+    list[place] = element;
+}
+
 // So many elements from a position on, all of one segment, into a list from a place on.
 fn take_all(
     store: &[u32],
@@ -42,7 +50,8 @@ fn take_all(
     let mut n: usize = 0;
     while n < count {
         let at = run_spans::on_by(first, n);
-        list[from + n] = store::take_element(store, species, segment, at);
+        let element = store::take_element(store, species, segment, at);
+        fill_place(list, from + n, element);
         n += 1;
     }
 }

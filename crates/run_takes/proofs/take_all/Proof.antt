@@ -22,14 +22,11 @@ on-by-requires c κs = search needs
 take-element-requires : tie.Need-take-element-requires Inv-loop μ-loop
 take-element-requires c κs = search needs
 
-add-list : tie.Need-add-list Inv-loop μ-loop
-add-list c = search needs
+add-fill-place : tie.Need-add-fill-place Inv-loop μ-loop
+add-fill-place c = search needs
 
-mul-list : tie.Need-mul-list Inv-loop μ-loop
-mul-list c = search needs
-
-slice-write-list : tie.Need-slice-write-list Inv-loop μ-loop
-slice-write-list c = search needs
+fill-place-requires : tie.Need-fill-place-requires Inv-loop μ-loop
+fill-place-requires c κs = search needs
 
 add-n : tie.Need-add-n Inv-loop μ-loop
 add-n c = search needs
@@ -55,9 +52,8 @@ take-all-spec =
     loop-holds
     on-by-requires
     take-element-requires
-    add-list
-    mul-list
-    slice-write-list
+    add-fill-place
+    fill-place-requires
     add-n
     loop-less
     loop-again
