@@ -5,7 +5,6 @@ use mathlib.Core.List.{List}
 use native.Mathlib.Numerals.{add-one}
 use native.Mathlib.Omega.{arith}
 use lib.ListN.{getD}
-use borrow.Author.Tests.{eq-eqb, ne-eqb}
 use Rattle.placing.specs.declared.Segment.{Segment}
 use Rattle.placing.specs.declared.Position.{Position}
 use Rattle.placing.specs.Sizes.{greatestEnd}
@@ -17,6 +16,7 @@ use Rattle.tables.specs.Fields.{valueOf}
 use Rattle.tables.specs.Handles.{pointed}
 use Rattle.run_spans.specs.Ahead.{Ahead, Fewer}
 use Rattle.run_puts.specs.Puts.{putFirst, limitOf}
+use Rattle.run_puts.specs.laws.Limits.{limit-end, limit-other}
 
 -- ---- the loop: s is the store where j elements are put
 
@@ -39,12 +39,10 @@ pub ruleset puts = (put-none, put-more, put-ends)
 -- ---- the first position that is not written at
 
 pub limit-append : (o : Opening) (p : ℕ) (x : Position) → x ≡ position greatestEnd → p ≡ 1 → x .0 ≡ limitOf o p
-unfolding limitOf
-limit-append o p x ex e = ap positionNumber ex ∙ rw (eq-eqb p 1 e) refl
+limit-append o p x ex e = ap positionNumber ex ∙ sym (limit-end o p e)
 
 pub limit-inner : (o : Opening) (p : ℕ) (x : Position) → (p ≡ 1 → ⊥) → x .0 ≡ valueOf o 1 → x .0 ≡ limitOf o p
-unfolding limitOf
-limit-inner o p x d e = rw (ne-eqb p 1 d) e
+limit-inner o p x d e = e ∙ sym (limit-other o p d)
 
 pub ruleset limits = (limit-append, limit-inner)
 

@@ -1,0 +1,62 @@
+use borrow.Author.Needs.{needs}
+use Rattle.gate_laws.specs.Known.{standing}
+use Rattle.call_write_run.proofs.Going.{admitting}
+use Rattle.call_write_run.proofs.admit.Statement.{statement}
+use Rattle.call_write_run.proofs.admit.Tie as tie
+
+load-opening-requires : tie.Need-load-opening-requires
+load-opening-requires c κs = search standing
+
+value-requires : tie.Need-value-requires
+value-requires c κs = search needs
+
+is-none-requires : tie.Need-is-none-requires
+is-none-requires c κs = search needs
+
+number-requires : tie.Need-number-requires
+number-requires c κs = search needs
+
+same-length : tie.Need-same-length
+same-length c = search needs
+
+returns : tie.Need-returns
+returns c = search admitting
+
+number-requires-2 : tie.Need-number-requires-2
+number-requires-2 c κs = search needs
+
+same-length-2 : tie.Need-same-length-2
+same-length-2 c = search needs
+
+returns-2 : tie.Need-returns-2
+returns-2 c = search admitting
+
+run-on-requires : tie.Need-run-on-requires
+run-on-requires c κs = search needs
+
+same-length-3 : tie.Need-same-length-3
+same-length-3 c = search needs
+
+same-length-4 : tie.Need-same-length-4
+same-length-4 c = search needs
+
+returns-3 : tie.Need-returns-3
+returns-3 c = search admitting
+
+pub admit-spec : {M : Type 1} → statement M
+admit-spec =
+    tie.close
+    (tie.spec
+    load-opening-requires
+    value-requires
+    is-none-requires
+    number-requires
+    same-length
+    returns
+    number-requires-2
+    same-length-2
+    returns-2
+    run-on-requires
+    same-length-3
+    same-length-4
+    returns-3)

@@ -1,0 +1,2 @@
+-- What the contracts of `call_write_run` cite. Assumes nothing.
+pub mod Turned
