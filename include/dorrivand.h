@@ -13,7 +13,7 @@
  *   - The slices and the place lent to one call do not overlap, and nobody else writes to them before it returns.
  * Nothing else. Numbers may be any numbers, slices of any length, cells and names of any contents: every call ends and
  * answers, and a refusal leaves store, tables, image and list as they stood. A run's place, which gets the refusal's number,
- * is the one cell that a refusal may write. A call writes only where its slice is not const.
+ * is the one cell that a refusal may write. A call writes only to slices that are not const, and to its place.
  *
  * Where a call's words below name no number, done is 0. The refusals of a call are listed in the order in which they are
  * judged: the first that applies is the answer.
