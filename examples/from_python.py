@@ -34,6 +34,16 @@ def call(word, *arguments):
     return answer
 
 
+def run(word, user, entry, pointer, cells):
+    """How many cells a run left or filled, and the words of what stopped it, or None."""
+    place = Cell()
+    function = getattr(library, "dorrivand_" + word)
+    function.argtypes = [Cells, Length, Cells, Length, Cell, Cell, Cell, Cells, Length, Cells]
+    function.restype = Length
+    count = function(store, len(store), tables, len(tables), user, entry, pointer, cells, len(cells), place)
+    return count, library.words(place.value).decode() if place.value else None
+
+
 call("fresh")
 call("new", 2, 0, BITS_16)
 for fault in 301, 417:
@@ -51,3 +61,9 @@ try:
 except Refused as why:
     print("refused:", why)
 print("free segments:", call("free", 2))
+
+readings, places = (Cell * 40)(*range(200, 240)), (Cell * 50)()
+call("new", 2, 1, BITS_16)
+print("left:", *run("write_run", 2, 1, END, readings))
+print("filled:", *run("fill_run", 2, 1, WORK, places))
+print("as delivered:", places[:40] == readings[:] and places[40:] == [0] * 10)

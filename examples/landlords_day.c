@@ -5,6 +5,7 @@
 #include <string.h>
 
 #define STORE_LENGTH 1024
+#define READINGS 40
 
 static uint32_t store[STORE_LENGTH];
 static uint32_t *tables;
@@ -36,6 +37,15 @@ static void got(const char *call, uint64_t answer) {
         printf("    %-30s%u\n", call, (unsigned)dorrivand_number(answer));
     } else {
         refused(call, answer);
+    }
+}
+
+/* How many elements a run left or filled, and what stopped it. */
+static void ran(const char *call, size_t elements, uint32_t stop) {
+    if (stop == 0) {
+        printf("    %-30s%lu\n", call, (unsigned long)elements);
+    } else {
+        printf("    %-30s%lu, stopped: %s\n", call, (unsigned long)elements, dorrivand_words(stop));
     }
 }
 
@@ -106,6 +116,28 @@ static void edit(void) {
     got("free segments", dorrivand_free(LENT, 2));
 }
 
+static void write_and_fill_runs(void) {
+    uint32_t readings[READINGS], list[READINGS], stop;
+    size_t elements;
+    part("The sensors of lift 7 deliver forty readings together. One run writes them, and one reads them back.");
+    for (uint32_t i = 0; i < READINGS; i++) readings[i] = 215 + 3 * i;
+    did("open new", dorrivand_new(LENT, 2, 0, DORRIVAND_BITS_16));
+    elements = dorrivand_write_run(LENT, 2, 0, DORRIVAND_END, readings, READINGS, &stop);
+    ran("append forty, left unwritten", elements, stop);
+    did("rename to \"motor 7\"", dorrivand_rename(LENT, 2, 0, NAMED("motor 7")));
+    did("close private", dorrivand_close(LENT, 2, 0));
+    got("free segments", dorrivand_free(LENT, 2));
+    open_for("reading", "motor 7", dorrivand_read(LENT, 2, 1, NAMED("motor 7")));
+    elements = dorrivand_fill_run(LENT, 2, 1, DORRIVAND_WORK, list, READINGS, &stop);
+    ran("fill forty, filled", elements, stop);
+    printf("    %-30s%u\n", "the first", (unsigned)list[0]);
+    printf("    %-30s%u\n", "the last", (unsigned)list[READINGS - 1]);
+    printf("    %-30s%s\n", "all as delivered", memcmp(list, readings, sizeof list) == 0 ? "yes" : "no");
+    elements = dorrivand_fill_run(LENT, 2, 1, DORRIVAND_WORK, list, READINGS, &stop);
+    ran("fill forty more, filled", elements, stop);
+    did("close private", dorrivand_close(LENT, 2, 1));
+}
+
 static void save_and_load(uint32_t *image) {
     part("In the evening the operator saves. After another fresh start the load brings all back.");
     did("save", dorrivand_save(LENT, image, dorrivand_image_length()));
@@ -131,6 +163,7 @@ int main(void) {
     make_two_files();
     read_and_be_refused();
     edit();
+    write_and_fill_runs();
     save_and_load(image);
     free(image);
     free(tables);

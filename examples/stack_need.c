@@ -9,10 +9,10 @@
 #include <stdlib.h>
 #include <string.h>
 
-enum { STORE_LENGTH = 65536, USER = 1, ENTRY = 2, FIRST_OWN = 3 };
+enum { STORE_LENGTH = 65536, LIST_LENGTH = 100, USER = 1, ENTRY = 2, FIRST_OWN = 3 };
 enum { STACK_BYTES = 1 << 18, MOST_BYTES = 32 * 1024, PAGE_BYTES = 4096, PATTERN = 0xA5 };
 
-static uint32_t store[STORE_LENGTH], *tables, *image;
+static uint32_t store[STORE_LENGTH], list[LIST_LENGTH], *tables, *image;
 
 #define LENT store, STORE_LENGTH, tables, dorrivand_tables_length()
 #define NAMED (const uint8_t *)"lift 7", 6
@@ -34,6 +34,24 @@ static uint64_t take_first(void) { return dorrivand_next(LENT, USER, ENTRY, DORR
 static uint64_t take_last(void) { return dorrivand_prev(LENT, USER, ENTRY, DORRIVAND_END); }
 static uint64_t free_segments(void) { return dorrivand_free(LENT, USER); }
 static uint64_t abandon(void) { return dorrivand_abandon(LENT, USER, ENTRY); }
+
+/* What stopped a run, as a call answers it. */
+static uint64_t stopped(uint32_t stop) { return stop == 0 ? 0 : ((uint64_t)1 << 32) + stop; }
+
+static uint64_t write_run(uint32_t pointer) {
+    uint32_t stop;
+    dorrivand_write_run(LENT, USER, ENTRY, pointer, list, LIST_LENGTH, &stop);
+    return stopped(stop);
+}
+
+static uint64_t append_run(void) { return write_run(DORRIVAND_END); }
+static uint64_t replace_run(void) { return write_run(DORRIVAND_WORK); }
+
+static uint64_t take_run(void) {
+    uint32_t stop;
+    dorrivand_fill_run(LENT, USER, ENTRY, DORRIVAND_BEGIN, list, LIST_LENGTH, &stop);
+    return stopped(stop);
+}
 
 struct call {
     const char *name;
@@ -57,6 +75,9 @@ static struct call calls[] = {
     {"replace", replace},
     {"next", take_first},
     {"prev", take_last},
+    {"append a run", append_run},
+    {"replace a run", replace_run},
+    {"fill a run", take_run},
     {"free segments", free_segments},
     {"abandon", abandon},
 };

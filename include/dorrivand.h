@@ -9,9 +9,11 @@
  * What the caller must see to:
  *   - A slice is a pointer and a number of elements: the pointer points to as many elements as the number says. Where
  *     the number is 0, any pointer will do.
- *   - The slices lent to one call do not overlap, and nobody else writes to them before it returns.
+ *   - A place is a pointer to one cell.
+ *   - The slices and the place lent to one call do not overlap, and nobody else writes to them before it returns.
  * Nothing else. Numbers may be any numbers, slices of any length, cells and names of any contents: every call ends and
- * answers, and a refusal leaves store, tables and image as they stood. A call writes only where its slice is not const.
+ * answers, and a refusal leaves store, tables, image and list as they stood. A run's place, which gets the refusal's number,
+ * is the one cell that a refusal may write. A call writes only to slices that are not const, and to its place.
  *
  * Where a call's words below name no number, done is 0. The refusals of a call are listed in the order in which they are
  * judged: the first that applies is the answer.
@@ -53,7 +55,7 @@ enum dorrivand_species {
 };
 
 /* The version that this header belongs to: it grows by 1 with each change that a caller can notice. */
-#define DORRIVAND_VERSION 1
+#define DORRIVAND_VERSION 2
 
 /* The version of the library that is linked. */
 uint32_t dorrivand_version(void);
@@ -157,8 +159,8 @@ uint64_t dorrivand_delete(const uint32_t *store, size_t store_length, uint32_t *
 
 /* ---- Access: v is the value of the pointer, b the begin, e the end ---- */
 
-/* Write, the only call that writes to the store. Through 1: append, e grows by 1. Through 0: the first element is dropped,
- * no segment is taken and no store cell changes. Else position v is replaced. v grows by 1. A number too wide for the
+/* Write: it and its run are all that writes to the store. Through 1: append, e grows by 1. Through 0: the first element is
+ * dropped, no segment is taken and no store cell changes. Else position v is replaced. v grows by 1. A number too wide for the
  * species loses its top bits.
  * Refusals: 20; 1; 2; 4; 5; 6 where v < b; 7 where v >= e, but not through 1; 10; 8; 9. */
 uint64_t dorrivand_write(uint32_t *store, size_t store_length, uint32_t *tables, size_t tables_length,
@@ -173,6 +175,26 @@ uint64_t dorrivand_next(const uint32_t *store, size_t store_length, uint32_t *ta
  * Refusals: 20; 1; 2; 4; 5 (through 1); 6 where v <= b; 7 where v > e. */
 uint64_t dorrivand_prev(const uint32_t *store, size_t store_length, uint32_t *tables, size_t tables_length,
                         uint32_t user, uint32_t entry, uint32_t pointer);
+
+/* ---- Runs of elements: single calls made one after another, up to the first that is refused ---- */
+
+/* The outcome is that of the single calls: what those before the refused one did stays done. The tables are judged once for
+ * the whole run. The place gets the number of the refusal that stopped the run, 0 where none did. A list of length 0 asks for
+ * no element, and gets the refusals that come before any element's. */
+
+/* Write a run: writes the list's elements in their order through one pointer. The answer is how many are left unwritten: the
+ * last so many of the list.
+ * Refusals: 20; 1; 2; 4; 5; 6; 7; 10; 8; 9, as for write; of a list of length 0 only 20; 1; 2; 4; 5. */
+size_t dorrivand_write_run(uint32_t *store, size_t store_length, uint32_t *tables, size_t tables_length,
+                           uint32_t user, uint32_t entry, uint32_t pointer, const uint32_t *list, size_t list_length,
+                           uint32_t *place);
+
+/* Fill a run: puts what next delivers through one pointer into the list's places in their order. The answer is how many it
+ * filled: the first so many of the list. The others stay as they were.
+ * Refusals: 20; 1; 2; 4; 5 (through 0); 6; 7, as for next; of a list of length 0 only 20; 1; 2; 4; 5 (through 0). */
+size_t dorrivand_fill_run(const uint32_t *store, size_t store_length, uint32_t *tables, size_t tables_length,
+                          uint32_t user, uint32_t entry, uint32_t pointer, uint32_t *list, size_t list_length,
+                          uint32_t *place);
 
 /* ---- Inquiries about an open file ---- */
 

@@ -1,7 +1,8 @@
 /*
  * What dorrivand.h's calls answer, and why they refuse.
  *
- * The answer is one number of 64 bits: done with n is n, refused for n is 2^32 + n.
+ * The answer is one number of 64 bits: done with n is n, refused for n is 2^32 + n. A run's answer is a number of elements, and
+ * its place gets the number of the refusal, or 0.
  */
 #ifndef DORRIVAND_ANSWERS_H
 #define DORRIVAND_ANSWERS_H

@@ -1,6 +1,9 @@
 //! A landlord's day. It prints every answer; examples/landlords_day.expected of the repository has them all.
 
 use dorrivand::{pointer, Refusal, Species, Store};
+use std::array;
+
+const READINGS: usize = 40;
 
 fn part(words: &str) {
     println!("\n{words}");
@@ -19,6 +22,14 @@ fn got(call: &str, answer: Result<u32, Refusal>) {
     match answer {
         Ok(number) => println!("    {call:<30}{number}"),
         Err(refusal) => println!("    {call:<30}refused: {refusal}"),
+    }
+}
+
+/// How many elements a run left or filled, and what stopped it.
+fn ran(call: &str, elements: usize, stop: Option<Refusal>) {
+    match stop {
+        None => println!("    {call:<30}{elements}"),
+        Some(refusal) => println!("    {call:<30}{elements}, stopped: {refusal}"),
     }
 }
 
@@ -85,6 +96,27 @@ fn edit(store: &mut Store) {
     got("free segments", store.free_segments(2));
 }
 
+fn write_and_fill_runs(store: &mut Store) {
+    part("The sensors of lift 7 deliver forty readings together. One run writes them, and one reads them back.");
+    let readings: [u32; READINGS] = array::from_fn(|n| 215 + 3 * n as u32);
+    did("open new", store.open_new(2, 0, Species::Bits16));
+    let (rest, stop) = store.write_run(2, 0, pointer::END, &readings);
+    ran("append forty, left unwritten", rest.len(), stop);
+    did("rename to \"motor 7\"", store.rename(2, 0, "motor 7"));
+    did("close private", store.close_private(2, 0));
+    got("free segments", store.free_segments(2));
+    did("open for reading \"motor 7\"", store.open_read(2, 1, "motor 7"));
+    let mut list = [0; READINGS];
+    let (filled, stop) = store.fill_run(2, 1, pointer::WORK, &mut list);
+    ran("fill forty, filled", filled, stop);
+    println!("    {:<30}{}", "the first", list[0]);
+    println!("    {:<30}{}", "the last", list[READINGS - 1]);
+    println!("    {:<30}{}", "all as delivered", if list == readings { "yes" } else { "no" });
+    let (filled, stop) = store.fill_run(2, 1, pointer::WORK, &mut list);
+    ran("fill forty more, filled", filled, stop);
+    did("close private", store.close_private(2, 1));
+}
+
 fn save_and_load(store: &mut Store) {
     part("In the evening the operator saves. After another fresh start the load brings all back.");
     let mut image = vec![0; dorrivand::image_length()];
@@ -106,5 +138,6 @@ fn main() {
     make_two_files(&mut store);
     read_and_be_refused(&mut store);
     edit(&mut store);
+    write_and_fill_runs(&mut store);
     save_and_load(&mut store);
 }

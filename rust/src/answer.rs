@@ -1,4 +1,4 @@
-//! The answer of a call, unpacked.
+//! The answer of a call, unpacked, and what a run came to.
 
 use crate::refusal::Refusal;
 use crate::species::Species;
@@ -35,6 +35,23 @@ pub fn yes_or_no(answer: Answer) -> Result<bool, Refusal> {
 pub fn species(answer: Answer) -> Result<Species, Refusal> {
     let number = answer?;
     Ok(Species::from_number(number).unwrap_or_else(|| unknown(number, "a species")))
+}
+
+/// What stopped a run: "that refusal's number, or 0".
+pub fn stop(number: u32) -> Option<Refusal> {
+    match (number, Refusal::from_number(number)) {
+        (0, _) => None,
+        (_, None) => unknown(number, "what stops a run"),
+        (_, refusal) => refusal,
+    }
+}
+
+/// How many of a list's elements a run answers: never more than there are.
+pub fn elements_of(list: &[u32], answered: usize) -> usize {
+    match answered <= list.len() {
+        true => answered,
+        false => unknown(answered as u64, "a number of the list's elements"),
+    }
 }
 
 /// The library is proved to answer nothing else; another answer means that another library was linked, and then no answer
@@ -87,6 +104,24 @@ mod tests {
     #[should_panic(expected = "not yes or no")]
     fn neither_yes_nor_no() {
         let _ = yes_or_no(Ok(2));
+    }
+
+    #[test]
+    fn stops_of_runs() {
+        assert_eq!((stop(0), stop(9)), (None, Some(Refusal::NoRoom)));
+        assert_eq!((elements_of(&[], 0), elements_of(&[7, 7], 2)), (0, 2));
+    }
+
+    #[test]
+    #[should_panic(expected = "23, which is not what stops a run")]
+    fn a_stop_without_a_case() {
+        let _ = stop(23);
+    }
+
+    #[test]
+    #[should_panic(expected = "3, which is not a number of the list's elements")]
+    fn more_than_the_list_has() {
+        let _ = elements_of(&[7, 7], 3);
     }
 
     #[test]

@@ -2,7 +2,8 @@
 
 use crate::answer::{answer, Answer};
 
-/// For each line a safe function and the declaration of its export, which takes a slice as its pointer and its length.
+/// For each line a safe function and the declaration of its export, which takes a slice as its pointer and its length, and
+/// a lent place as its pointer.
 /// The lists in brackets grow by one argument a turn: the function's parameters, the export's, and what is passed. A
 /// result of 64 bits is an answer, any other is what it is.
 macro_rules! door {
@@ -20,6 +21,11 @@ macro_rules! door {
             [$($passed)* $slice.as_mut_ptr(), $slice.len(),] $($rest)*);
     };
     (@ $name:ident $export:ident $result:ident [$($taken:tt)*] [$($declared:tt)*] [$($passed:tt)*]
+        $place:ident: &mut u32, $($rest:tt)*) => {
+        door!(@ $name $export $result [$($taken)* $place: &mut u32,] [$($declared)* _: *mut u32,] [$($passed)* $place,]
+            $($rest)*);
+    };
+    (@ $name:ident $export:ident $result:ident [$($taken:tt)*] [$($declared:tt)*] [$($passed:tt)*]
         $number:ident: u32, $($rest:tt)*) => {
         door!(@ $name $export $result [$($taken)* $number: u32,] [$($declared)* _: u32,] [$($passed)* $number,] $($rest)*);
     };
@@ -28,9 +34,10 @@ macro_rules! door {
             extern "C" {
                 fn $export($($declared)*) -> $result;
             }
-            // SAFETY: the export asks that each pointer points to as many elements as the length after it says, and
-            // that slices do not overlap where one is written to. Both hold of borrowed slices, of which those that are
-            // written to are borrowed mutably. It writes to no other, and asks nothing of numbers, lengths and contents.
+            // SAFETY: the export asks that each pointer points to as many elements as the length after it says, a
+            // place's to one, and that they do not overlap where one is written to. Both hold of borrowed slices and
+            // places, of which those that are written to are borrowed mutably. It writes to no other, and asks nothing of
+            // numbers, lengths and contents.
             let given = unsafe { $export($($passed)*) };
             door!(value of $result given)
         }
@@ -63,6 +70,10 @@ door! {
     write = dorrivand_write(store: &mut [u32], tables: &mut [u32], user: u32, entry: u32, pointer: u32, number: u32) -> u64;
     next = dorrivand_next(store: &[u32], tables: &mut [u32], user: u32, entry: u32, pointer: u32) -> u64;
     prev = dorrivand_prev(store: &[u32], tables: &mut [u32], user: u32, entry: u32, pointer: u32) -> u64;
+    write_run = dorrivand_write_run(store: &mut [u32], tables: &mut [u32], user: u32, entry: u32, pointer: u32,
+        list: &[u32], place: &mut u32) -> usize;
+    fill_run = dorrivand_fill_run(store: &[u32], tables: &mut [u32], user: u32, entry: u32, pointer: u32,
+        list: &mut [u32], place: &mut u32) -> usize;
     species = dorrivand_species(store: &[u32], tables: &[u32], user: u32, entry: u32) -> u64;
     claim = dorrivand_claim(store: &[u32], tables: &[u32], user: u32, entry: u32) -> u64;
     permit = dorrivand_permit(store: &[u32], tables: &[u32], user: u32, entry: u32) -> u64;

@@ -29,6 +29,12 @@
 //! # }
 //! ```
 //!
+//! # Runs
+//!
+//! [`Store::write_run`] writes a list through a pointer and [`Store::fill_run`] fills one. The outcome is that of single
+//! calls made one after another, up to the first that is refused; what those before it did stays done. The tables are judged
+//! once for the whole run.
+//!
 //! # Names
 //!
 //! A name is made from bytes: space, tab and newline are skipped; `0` to `9` and `a` to `z` are the symbols 0 to 35; any

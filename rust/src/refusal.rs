@@ -3,7 +3,7 @@
 use std::error::Error;
 use std::fmt;
 
-/// Why a call is refused. A refused call has changed nothing.
+/// Why a call is refused, or a run is stopped. A refused call has changed nothing.
 ///
 /// ```
 /// use dorrivand::Refusal;

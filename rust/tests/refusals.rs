@@ -23,6 +23,21 @@ fn refused<N>(store: &mut Store, number: u32, call: impl FnOnce(&mut Store) -> R
     assert!(before == (store.cells().to_vec(), store.tables().to_vec()), "refusal {number} changed a cell");
 }
 
+/// Makes both runs with one element, which must be stopped by this number and change no cell.
+fn stopped(store: &mut Store, number: u32, (user, entry): (u32, u32), pointer: u32) {
+    refused(store, number, |store| {
+        let (rest, stop) = store.write_run(user, entry, pointer, &[8]);
+        assert_eq!(rest, [8]);
+        stop.map_or(Ok(()), Err)
+    });
+    refused(store, number, |store| {
+        let mut list = [9];
+        let (filled, stop) = store.fill_run(user, entry, pointer, &mut list);
+        assert_eq!((filled, list), (0, [9]));
+        stop.map_or(Ok(()), Err)
+    });
+}
+
 #[test]
 fn users_entries_and_pointers() {
     let mut store = three_files();
@@ -63,6 +78,26 @@ fn access() {
     refused(&mut store, 9, |store| store.write(0, 0, pointer::WORK, 8));
     assert_eq!(store.next(0, 0, pointer::WORK), Ok(7));
     refused(&mut store, 7, |store| store.next(0, 0, pointer::WORK));
+}
+
+/// The same refusals stop a run of one element at once: the rest is the whole list, and no place is filled.
+#[test]
+fn runs_of_one_element() {
+    let mut store = three_files();
+    stopped(&mut store, 1, (8, 0), pointer::END);
+    stopped(&mut store, 2, (0, 0), pointer::END);
+    stopped(&mut store, 2, (0, 4), pointer::END);
+    assert_eq!(store.open_read(0, 1, "ours"), Ok(()));
+    stopped(&mut store, 4, (0, 1), 3);
+    stopped(&mut store, 5, (0, 1), pointer::BEGIN);
+    assert_eq!(store.open_work(0, 0, "mine"), Ok(()));
+    assert_eq!(store.new_pointer(0, 0, pointer::END), Ok(3));
+    stopped(&mut store, 7, (0, 0), 3);
+    refused(&mut store, 9, |store| store.write_run(0, 0, pointer::WORK, &[8]).1.map_or(Ok(()), Err));
+    assert_eq!(store.next(0, 0, pointer::BEGIN), Ok(7));
+    stopped(&mut store, 6, (0, 0), pointer::WORK);
+    store.tables_mut()[0] = 4;
+    stopped(&mut store, 20, (0, 0), pointer::WORK);
 }
 
 #[test]

@@ -6,9 +6,11 @@ use dorrivand::{pointer, Refusal, Species, Store};
 fn some_calls(store: &mut Store) -> Result<u32, Refusal> {
     store.fresh_start()?;
     store.open_new(3, 1, Species::Bits2)?;
-    for number in 0..1500 {
+    for number in 0..750 {
         store.write(3, 1, pointer::END, number)?;
     }
+    let more: Vec<u32> = (750..1500).collect();
+    assert_eq!(store.write_run(3, 1, pointer::END, &more), (&[][..], None));
     store.rename(3, 1, "a")?;
     store.close_public(3, 1)?;
     store.open_work(3, 2, "a")?;
@@ -59,6 +61,8 @@ fn nothing_lent_at_all() {
     assert_eq!(store.fresh_start(), Err(Refusal::UnsoundTables));
     assert_eq!(store.open_work(0, 0, ""), Err(Refusal::UnsoundTables));
     assert_eq!(store.save(&mut []), Err(Refusal::UnsoundTables));
+    assert_eq!(store.write_run(0, 0, 0, &[]), (&[][..], Some(Refusal::UnsoundTables)));
+    assert_eq!(store.fill_run(0, 0, 0, &mut []), (0, Some(Refusal::UnsoundTables)));
 }
 
 #[test]

@@ -1,19 +1,29 @@
-//! The library's side: store, tables and four images of its own, and the calls of a line made through the crate
+//! The library's side: store, tables, four images and two lists of its own, and the calls of a line made through the crate
 //! `dorrivand`.
 
 use crate::buffer::Buffer;
 use crate::line::{Buffers, Line, CALLS};
+use crate::reply::Reply;
 use dorrivand::{Refusal, Store};
 
-pub type Answer = Result<u32, Refusal>;
+pub const LIST_CELLS: usize = 2_112;
 
 pub struct Door {
     pub store: Buffer,
     pub tables: Buffer,
     pub images: [Buffer; 4],
+    pub lists: [Buffer; 2],
     /// Whether every call is lent copies that are allocated by themselves, so that a tool that watches memory sees any
     /// access beside them.
     pub apart: bool,
+}
+
+/// What a call may be lent.
+struct Lent<'a> {
+    store: &'a mut [u32],
+    tables: &'a mut [u32],
+    image: &'a mut [u32],
+    list: &'a mut [u32],
 }
 
 impl Door {
@@ -21,16 +31,18 @@ impl Door {
     pub fn new(apart: bool) -> Door {
         let tables = dorrivand::tables_length();
         let image = || Buffer::of_zeros(1_024, dorrivand::image_length());
+        let list = || Buffer::of_zeros(LIST_CELLS, 40);
         Door {
             store: Buffer::of_zeros(65_600, 65_536),
             tables: Buffer::of_zeros(tables + 64, tables),
             images: [image(), image(), image(), image()],
+            lists: [list(), list()],
             apart,
         }
     }
 
-    /// The answer, where the line is a call.
-    pub fn obey(&mut self, line: Line) -> Option<Answer> {
+    /// What it came to, where the line is a call.
+    pub fn obey(&mut self, line: Line) -> Option<Reply> {
         match line {
             Line::Lend(buffer, length) => {
                 self.buffer(buffer).lend(length as usize);
@@ -40,24 +52,26 @@ impl Door {
                 self.buffer(buffer).poke(cell as usize, value);
                 None
             }
-            Line::Call(call, numbers, name) if self.apart => Some(self.call_apart(CALLS[call], numbers, name)),
             Line::Call(call, numbers, name) => {
-                let image = self.images[image_of(CALLS[call], numbers)].lent();
-                Some(perform(CALLS[call], numbers, name, self.store.lent(), self.tables.lent(), image))
+                let perform = if self.apart { perform_apart } else { perform };
+                Some(perform(CALLS[call], numbers, name, self.lent(CALLS[call], numbers)))
             }
         }
     }
 
-    fn call_apart(&mut self, call: &str, numbers: [u32; 4], name: &[u8]) -> Answer {
-        let image = self.images[image_of(call, numbers)].lent();
-        let copy = |cells: &[u32]| cells.to_vec().into_boxed_slice();
-        let (mut store, mut tables, mut copied) = (copy(self.store.lent()), copy(self.tables.lent()), copy(image));
-        let name = name.to_vec().into_boxed_slice();
-        let answer = perform(call, numbers, &name, &mut store, &mut tables, &mut copied);
-        image.copy_from_slice(&copied);
-        self.store.lent().copy_from_slice(&store);
-        self.tables.lent().copy_from_slice(&tables);
-        answer
+    /// Only a save and a load name an image, and only a run names a list; the others are not lent them.
+    fn lent(&mut self, call: &str, numbers: [u32; 4]) -> Lent<'_> {
+        let (image, list) = match call {
+            "save" | "load" => (numbers[0], 0),
+            "writes" | "nexts" => (0, numbers[3]),
+            _ => (0, 0),
+        };
+        Lent {
+            store: self.store.lent(),
+            tables: self.tables.lent(),
+            image: self.images[image as usize].lent(),
+            list: self.lists[list as usize].lent(),
+        }
     }
 
     fn buffer(&mut self, buffer: Buffers) -> &mut Buffer {
@@ -65,32 +79,54 @@ impl Door {
             Buffers::Store => &mut self.store,
             Buffers::Tables => &mut self.tables,
             Buffers::Image(image) => &mut self.images[image],
+            Buffers::List(list) => &mut self.lists[list],
         }
     }
 
     pub fn guards_stand(&self) -> bool {
-        let images = self.images.iter().all(Buffer::guards_stand);
-        images && self.store.guards_stand() && self.tables.guards_stand()
+        let others = self.images.iter().chain(&self.lists).all(Buffer::guards_stand);
+        others && self.store.guards_stand() && self.tables.guards_stand()
     }
 }
 
-/// Only a save and a load name an image; the others are not lent it.
-fn image_of(call: &str, numbers: [u32; 4]) -> usize {
+fn perform_apart(call: &str, numbers: [u32; 4], name: &[u8], lent: Lent) -> Reply {
+    let copy = |cells: &[u32]| cells.to_vec().into_boxed_slice();
+    let (mut store, mut tables) = (copy(lent.store), copy(lent.tables));
+    let (mut image, mut list) = (copy(lent.image), copy(lent.list));
+    let name = name.to_vec().into_boxed_slice();
+    let copies = Lent { store: &mut store, tables: &mut tables, image: &mut image, list: &mut list };
+    let reply = perform(call, numbers, &name, copies);
+    lent.store.copy_from_slice(&store);
+    lent.tables.copy_from_slice(&tables);
+    lent.image.copy_from_slice(&image);
+    lent.list.copy_from_slice(&list);
+    reply
+}
+
+fn perform(call: &str, numbers: [u32; 4], name: &[u8], lent: Lent) -> Reply {
+    let mut store = Store::over(lent.store, lent.tables);
+    let [user, entry, pointer, _] = numbers;
+    let length = lent.list.len();
     match call {
-        "save" | "load" => numbers[0] as usize,
-        _ => 0,
+        "writes" => {
+            let (rest, stop) = store.write_run(user, entry, pointer, lent.list);
+            Reply::Rest { left: rest.len(), length, stop }
+        }
+        "nexts" => {
+            let (filled, stop) = store.fill_run(user, entry, pointer, lent.list);
+            Reply::Filled { filled, length, stop }
+        }
+        _ => Reply::Single(perform_single(call, numbers, name, &mut store, lent.image)),
     }
 }
 
-fn perform(
+fn perform_single(
     call: &str,
     [user, entry, third, fourth]: [u32; 4],
     name: &[u8],
-    store: &mut [u32],
-    tables: &mut [u32],
+    store: &mut Store,
     image: &mut [u32],
-) -> Answer {
-    let mut store = Store::over(store, tables);
+) -> Result<u32, Refusal> {
     // "N being 0 where document 01 gives the answer no number".
     let nothing = |answer: Result<(), Refusal>| answer.map(|()| 0);
     match call {

@@ -1,11 +1,12 @@
 //! Random calls through the library's door, compared with the second program: every answer, and after every call every cell
-//! of store, tables and images.
+//! of store, tables, images and lists.
 
 pub mod buffer;
 pub mod door;
 pub mod line;
 pub mod pair;
 pub mod random;
+pub mod reply;
 pub mod shorten;
 pub mod stories;
 pub mod tally;

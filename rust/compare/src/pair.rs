@@ -1,7 +1,8 @@
 //! The library and the second program side by side: every line to both, and all that they say and hold compared.
 
-use crate::door::{Answer, Door};
+use crate::door::Door;
 use crate::line::Line;
+use crate::reply::Reply;
 use crate::tally::{is_lawful, Tally};
 use filing::text::answering::Desk;
 use filing::text::line::BufferName;
@@ -22,28 +23,28 @@ impl Pair {
         Pair { door: Door::new(apart), second: Desk::new(), history: Vec::new(), tally: Tally::default() }
     }
 
-    /// Says a line to both; delivers the answer where it is a call. Lines that second does not know, and those that only
+    /// Says a line to both; delivers what it came to where it is a call. Lines that second does not know, and those that only
     /// look, are said to nobody: all cells are looked at after every call.
-    pub fn say(&mut self, line: &[u8]) -> Result<Option<Answer>, Difference> {
+    pub fn say(&mut self, line: &[u8]) -> Result<Option<Reply>, Difference> {
         let Some(read) = Line::read(line) else { return Ok(None) };
         let second = self.second.answer(line).unwrap_or_default();
         if second.starts_with('?') {
             return Ok(None);
         }
         self.history.push(line.to_vec());
-        let Some(answer) = self.door.obey(read) else { return Ok(None) };
-        let door = text_of(&answer);
+        let Some(reply) = self.door.obey(read) else { return Ok(None) };
+        let door = reply.text();
         if door != second {
             return Err(Difference(format!("the door answers {door}, second answers {second}")));
         }
         if let Line::Call(call, ..) = read {
-            self.tally.count(call, &answer);
-            if !is_lawful(call, &answer) {
-                return Err(Difference(format!("both answer {door}, which document 01 does not give to this call")));
+            self.tally.count(call, &reply);
+            if !is_lawful(call, &reply) {
+                return Err(Difference(format!("both answer {door}, which the documents do not give to this call")));
             }
         }
         self.compare_cells()?;
-        Ok(Some(answer))
+        Ok(Some(reply))
     }
 
     fn compare_cells(&self) -> Result<(), Difference> {
@@ -51,6 +52,9 @@ impl Pair {
         same("store", self.door.store.cells(), &self.second.cells(BufferName::Store))?;
         for (number, name) in ["image0", "image1", "image2", "image3"].into_iter().enumerate() {
             same(name, self.door.images[number].cells(), &self.second.cells(BufferName::Image(number)))?;
+        }
+        for (number, name) in ["list0", "list1"].into_iter().enumerate() {
+            same(name, self.door.lists[number].cells(), &self.second.cells(BufferName::List(number)))?;
         }
         match self.door.guards_stand() {
             true => Ok(()),
@@ -72,11 +76,4 @@ fn same(buffer: &str, door: &[u32], second: &[u32]) -> Result<(), Difference> {
         ),
         None => format!("{buffer} has {} cells here and {} there", door.len(), second.len()),
     }))
-}
-
-fn text_of(answer: &Answer) -> String {
-    match answer {
-        Ok(number) => format!("done {number}"),
-        Err(refusal) => format!("refused {}", refusal.number()),
-    }
 }

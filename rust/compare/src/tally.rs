@@ -1,11 +1,11 @@
 //! How often each call had each outcome, and which outcomes the law knows.
 
-use crate::door::Answer;
-use crate::line::CALLS;
+use crate::line::{call, CALLS};
+use crate::reply::Reply;
 
 const OUTCOMES: usize = 23;
 
-/// The refusals of each call, in the order of `CALLS` and, within a call, of document 01.
+/// The refusals of each call, in the order of `CALLS` and, within a call, of the documents.
 pub const REFUSALS: [&[u32]; CALLS.len()] = [
     &[20],                              // fresh
     &[20, 22],                          // save
@@ -24,6 +24,8 @@ pub const REFUSALS: [&[u32]; CALLS.len()] = [
     &[20, 1, 2, 4, 5, 6, 7, 10, 8, 9],  // write
     &[20, 1, 2, 4, 5, 6, 7],            // next
     &[20, 1, 2, 4, 5, 6, 7],            // prev
+    &[20, 1, 2, 4, 5, 6, 7, 10, 8, 9],  // writes
+    &[20, 1, 2, 4, 5, 6, 7],            // nexts
     &[20, 1, 2],                        // species
     &[20, 1, 2],                        // claim
     &[20, 1, 2],                        // permit
@@ -33,15 +35,25 @@ pub const REFUSALS: [&[u32]; CALLS.len()] = [
     &[20, 1, 2, 4],                     // value
 ];
 
+/// "a list of length 0 still gets refusals 20, 1, 2, 4, 5 where they apply".
+const OF_EMPTY_LISTS: [u32; 5] = [20, 1, 2, 4, 5];
+
+/// What can stop a run after some of its elements: the other refusals meet its first element or none.
+const MIDWAY: [(&str, &[u32]); 2] = [("writes", &[7, 10, 8, 9]), ("nexts", &[7])];
+
 #[derive(Default)]
 pub struct Tally {
     /// By call and outcome: 0 for done, else the refusal.
     counts: [[u64; OUTCOMES]; CALLS.len()],
+    /// Those of runs that were stopped after some of their elements.
+    midway: [[u64; OUTCOMES]; CALLS.len()],
 }
 
 impl Tally {
-    pub fn count(&mut self, call: usize, answer: &Answer) {
-        self.counts[call][outcome(answer)] += 1;
+    pub fn count(&mut self, call: usize, reply: &Reply) {
+        let outcome = reply.outcome() as usize;
+        self.counts[call][outcome] += 1;
+        self.midway[call][outcome] += u64::from(reply.stopped_midway());
     }
 
     pub fn calls(&self) -> u64 {
@@ -49,8 +61,10 @@ impl Tally {
     }
 
     pub fn add(&mut self, other: &Tally) {
-        for (count, more) in self.counts.iter_mut().flatten().zip(other.counts.iter().flatten()) {
-            *count += more;
+        for (counts, others) in [(&mut self.counts, &other.counts), (&mut self.midway, &other.midway)] {
+            for (count, more) in counts.iter_mut().flatten().zip(others.iter().flatten()) {
+                *count += more;
+            }
         }
     }
 
@@ -64,6 +78,8 @@ impl Tally {
             let unseen = REFUSALS[call].iter().filter(|&&refusal| self.counts[call][refusal as usize] == 0);
             missing.extend(unseen.map(|refusal| format!("{word} refused {refusal}")));
         }
+        let stops = self.stops_midway().into_iter().filter(|&(.., count)| count == 0);
+        missing.extend(stops.map(|(word, refusal, _)| format!("{word} stopped midway by {refusal}")));
         missing
     }
 
@@ -76,21 +92,37 @@ impl Tally {
             let refused: Vec<String> = refused.collect();
             table += &format!("{word:<8} {:>9}  {}\n", self.counts[call][0], refused.join(", "));
         }
+        for (word, refusal, count) in self.stops_midway() {
+            table += &format!("{word} stopped midway by {refusal}: {count}\n");
+        }
         table
     }
-}
 
-fn outcome(answer: &Answer) -> usize {
-    match answer {
-        Ok(_) => 0,
-        Err(refusal) => refusal.number() as usize,
+    /// How often each run was stopped midway by each refusal that can do so.
+    fn stops_midway(&self) -> Vec<(&str, u32, u64)> {
+        let mut stops = Vec::new();
+        for (word, refusals) in MIDWAY {
+            let counts = self.midway[call(word).expect("a call")];
+            stops.extend(refusals.iter().map(|&refusal| (word, refusal, counts[refusal as usize])));
+        }
+        stops
     }
 }
 
 /// Whether the law gives this call such an answer at all.
-pub fn is_lawful(call: usize, answer: &Answer) -> bool {
-    match answer {
-        Ok(_) => true,
-        Err(refusal) => REFUSALS[call].contains(&refusal.number()),
+pub fn is_lawful(call: usize, reply: &Reply) -> bool {
+    let refusal = reply.outcome();
+    let known = refusal == 0 || REFUSALS[call].contains(&refusal);
+    known && reply.elements().map_or(true, |elements| is_lawful_run(CALLS[call], elements, refusal))
+}
+
+/// A run that nothing stops has dealt with its whole list; a stopped one has not, unless the list is empty.
+fn is_lawful_run(word: &str, (done, length): (usize, usize), refusal: u32) -> bool {
+    let midway = || MIDWAY.iter().any(|(run, refusals)| *run == word && refusals.contains(&refusal));
+    match (done, length, refusal) {
+        (_, _, 0) => done == length,
+        (0, 0, _) => OF_EMPTY_LISTS.contains(&refusal),
+        (0, _, _) => true,
+        _ => done < length && midway(),
     }
 }

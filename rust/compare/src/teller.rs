@@ -67,9 +67,9 @@ const EDGES: [u32; 22] = [
 ];
 
 impl Teller {
-    /// Says a line; delivers whether it was a call that was done.
+    /// Says a line; delivers whether it was a call that was done, or a run that nothing stopped.
     pub fn say(&mut self, line: impl AsRef<[u8]>) -> Result<bool, Difference> {
-        Ok(matches!(self.pair.say(line.as_ref())?, Some(Ok(_))))
+        Ok(self.pair.say(line.as_ref())?.is_some_and(|reply| reply.refusal().is_none()))
     }
 
     /// A call with a name.

@@ -15,11 +15,8 @@ struct Signature {
 /// The signatures by the exports' names.
 type Exports = BTreeMap<String, Signature>;
 
-/// The result of an export that is a call.
-const ANSWER: &str = "u64";
-
 /// Types of C and of Rust.
-const RESULTS: [(&str, &str); 3] = [("uint64_t", ANSWER), ("uint32_t", "u32"), ("size_t", "usize")];
+const RESULTS: [(&str, &str); 3] = [("uint64_t", "u64"), ("uint32_t", "u32"), ("size_t", "usize")];
 
 fn repository() -> PathBuf {
     Path::new(env!("CARGO_MANIFEST_DIR")).join("../..")
@@ -59,22 +56,21 @@ fn in_rust(text: &str, before: &str) -> Exports {
     declared.collect()
 }
 
-/// "uint32_t *store, size_t store_length".
+/// "uint32_t *store, size_t store_length, uint32_t *place": a pointer is a slice's where its length follows, else a place's.
 fn typed_in_c(arguments: &str) -> Vec<(String, String)> {
     let mut found = Vec::<(String, String)>::new();
-    for argument in parts(arguments).filter(|&argument| argument != "void") {
+    let mut arguments = parts(arguments).filter(|&argument| argument != "void").peekable();
+    while let Some(argument) = arguments.next() {
         let (kind, name) = argument.rsplit_once(' ').expect("an argument has a type");
-        let (kind, name) = match (kind, name.strip_prefix('*')) {
-            ("const uint32_t", Some(name)) => ("&[u32]", name),
-            ("uint32_t", Some(name)) => ("&mut [u32]", name),
-            ("const uint8_t", Some(name)) => ("&[u8]", name),
-            ("uint32_t", None) => ("u32", name),
-            ("size_t", None) => {
-                let slice = found.last().map(|(slice, _)| format!("{slice}_length"));
-                assert_eq!(Some(name.to_string()), slice, "a length follows its slice");
-                continue;
-            }
-            other => panic!("what is {other:?}?"),
+        let (name, is_pointer) = name.strip_prefix('*').map_or((name, false), |name| (name, true));
+        let has_length = arguments.next_if(|next| *next == format!("size_t {name}_length")).is_some();
+        let kind = match (kind, is_pointer, has_length) {
+            ("const uint32_t", true, true) => "&[u32]",
+            ("uint32_t", true, true) => "&mut [u32]",
+            ("const uint8_t", true, true) => "&[u8]",
+            ("uint32_t", true, false) => "&mut u32",
+            ("uint32_t", false, false) => "u32",
+            other => panic!("what is {other:?}, {name}?"),
         };
         found.push((name.to_string(), kind.to_string()));
     }
@@ -109,8 +105,9 @@ fn in_the_header() -> Exports {
 #[test]
 fn the_three_declarations_agree() {
     let rattle = in_rattle();
-    let calls = rattle.values().filter(|signature| signature.result == ANSWER).count();
-    assert_eq!(calls, compare::line::CALLS.len());
+    // A call is lent a store; the other exports answer alone.
+    let is_lent_a_store = |export: &&Signature| export.arguments.iter().any(|(name, _)| name == "store");
+    assert_eq!(rattle.values().filter(is_lent_a_store).count(), compare::line::CALLS.len());
     for (whose, others) in [("the crate's", in_the_crate()), ("the header's", in_the_header())] {
         for name in rattle.keys().chain(others.keys()) {
             assert_eq!(rattle.get(name), others.get(name), "Rattle's {name}, and {whose}");

@@ -25,6 +25,8 @@ const METHODS: [&str; CALLS.len()] = [
     "write",
     "next",
     "prev",
+    "write_run",
+    "fill_run",
     "species",
     "claim",
     "permit",
@@ -43,6 +45,15 @@ fn refusals_of(call: usize) -> BTreeSet<u32> {
     REFUSALS[call].iter().copied().collect()
 }
 
+/// The call of an export, which has its name but for runs.
+fn call_of(export: &str) -> Option<usize> {
+    match export {
+        "write_run" => call("writes"),
+        "fill_run" => call("nexts"),
+        _ => call(export),
+    }
+}
+
 /// The numbers from 1 to 22 in a text. Beside refusals it may name users, entries and pointers, whose numbers are among
 /// the call's refusals by chance; so a number too many may go unseen, and one too few does not.
 fn numbers_in(text: &str) -> BTreeSet<u32> {
@@ -55,9 +66,9 @@ fn in_the_header() {
     let text = text_of("../../include/dorrivand.h");
     for part in text.split("Refusals: ").skip(1) {
         let (list, rest) = part.split_once("*/").expect("the comment ends");
-        let (_, name) = rest.split_once("uint64_t dorrivand_").expect("a declaration follows");
+        let (_, name) = rest.split_once(" dorrivand_").expect("a declaration follows");
         let (name, _) = name.split_once('(').expect("with arguments");
-        let call = call(name).unwrap_or_else(|| panic!("{name} is no call"));
+        let call = call_of(name).unwrap_or_else(|| panic!("{name} is no call"));
         assert_eq!(numbers_in(list), refusals_of(call), "{name}");
     }
     assert_eq!(text.matches("Refusals: ").count(), CALLS.len());
@@ -65,12 +76,12 @@ fn in_the_header() {
 
 #[test]
 fn in_the_crate() {
-    let files = ["access", "closing", "inquiries", "opening", "operator", "pointers"];
+    let files = ["access", "closing", "inquiries", "opening", "operator", "pointers", "runs"];
     let text: String = files.iter().map(|file| text_of(&format!("../src/calls/{file}.rs"))).collect();
     for part in text.split("# Errors").skip(1) {
         let (list, rest) = part.split_once("```").expect("an example follows");
         let (_, name) = rest.split_once("pub fn ").expect("a method follows");
-        let (name, _) = name.split_once('(').expect("with arguments");
+        let (name, _) = name.split_once(['(', '<']).expect("with arguments");
         let call = METHODS.iter().position(|&method| method == name).unwrap_or_else(|| panic!("{name} is no call"));
         // Here a refusal's number stands in parentheses.
         let numbers = list.split('(').skip(1).filter_map(|rest| rest.split(')').next()?.parse().ok());

@@ -6,3 +6,4 @@ mod inquiries;
 mod opening;
 mod operator;
 mod pointers;
+mod runs;

@@ -12,6 +12,7 @@ impl Teller {
             6 | 7 => self.handle_pointers(),
             8 | 9 => self.inquire(),
             10 => self.ask_the_operator(),
+            11 => self.run_of_elements(),
             _ => self.access(),
         }
     }

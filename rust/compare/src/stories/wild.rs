@@ -95,6 +95,10 @@ impl Teller {
                 self.say(format!("{call} {user} {entry} {third}"))?
             }
             "write" => self.say(format!("write {user} {entry} {third} {fourth}"))?,
+            "writes" | "nexts" => {
+                let pointer = self.random.one_of(&[third, third % 8]);
+                self.say_run(call, (user, entry), pointer)?
+            }
             _ => self.say(format!("{call} {user} {entry}"))?,
         };
         Ok(())
