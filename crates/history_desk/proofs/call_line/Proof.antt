@@ -36,8 +36,14 @@ image-line-requires-2 c κs = search needs
 enum-told-3 : tie.Need-enum-told-3
 enum-told-3 c = search needs
 
+run-line-requires : tie.Need-run-line-requires
+run-line-requires c κs = search needs
+
 enum-told-4 : tie.Need-enum-told-4
 enum-told-4 c = search needs
+
+run-line-requires-2 : tie.Need-run-line-requires-2
+run-line-requires-2 c κs = search needs
 
 enum-told-5 : tie.Need-enum-told-5
 enum-told-5 c = search needs
@@ -69,17 +75,35 @@ same-length-6 c = search needs
 returns-2 : tie.Need-returns-2
 returns-2 c = search call-lines
 
-returns-3 : tie.Need-returns-3
-returns-3 c = search call-lines
-
-returns-4 : tie.Need-returns-4
-returns-4 c = search call-lines
-
 same-length-7 : tie.Need-same-length-7
 same-length-7 c = search needs
 
 same-length-8 : tie.Need-same-length-8
 same-length-8 c = search needs
+
+same-length-9 : tie.Need-same-length-9
+same-length-9 c = search needs
+
+returns-3 : tie.Need-returns-3
+returns-3 c = search call-lines
+
+same-length-10 : tie.Need-same-length-10
+same-length-10 c = search needs
+
+same-length-11 : tie.Need-same-length-11
+same-length-11 c = search needs
+
+same-length-12 : tie.Need-same-length-12
+same-length-12 c = search needs
+
+returns-4 : tie.Need-returns-4
+returns-4 c = search call-lines
+
+same-length-13 : tie.Need-same-length-13
+same-length-13 c = search needs
+
+same-length-14 : tie.Need-same-length-14
+same-length-14 c = search needs
 
 returns-5 : tie.Need-returns-5
 returns-5 c = search call-lines
@@ -99,7 +123,9 @@ call-line-spec =
     enum-told-2
     image-line-requires-2
     enum-told-3
+    run-line-requires
     enum-told-4
+    run-line-requires-2
     enum-told-5
     call-requires
     same-length
@@ -110,8 +136,14 @@ call-line-spec =
     same-length-5
     same-length-6
     returns-2
-    returns-3
-    returns-4
     same-length-7
     same-length-8
+    same-length-9
+    returns-3
+    same-length-10
+    same-length-11
+    same-length-12
+    returns-4
+    same-length-13
+    same-length-14
     returns-5)
