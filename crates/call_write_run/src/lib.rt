@@ -21,7 +21,7 @@ use tables::Opening;
 use write_plan::Plan;
 
 // What a turn comes to: the next element is refused, or so many are written.
-pub enum Turn {
+enum Turn {
     Stopped(Refusal),
     Went(usize),
 }
