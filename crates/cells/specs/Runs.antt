@@ -2,7 +2,6 @@
 use Prim.Native.Nat.{ℕ}
 use mathlib.Core.List.{List}
 use Rattle.combine.specs.Run.{Ran}
-use Rattle.placing.specs.Sizes.{Cells}
 use Rattle.rules.specs.Calls.{writes, fills}
 use Rattle.rules.specs.Runs.{listAfter}
 use Rattle.cells.specs.Outcomes.{Lent}

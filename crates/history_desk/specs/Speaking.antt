@@ -26,7 +26,7 @@ use Rattle.history_calls.specs.Told.{Told, told, toldOf}
 use Rattle.history_buffers.specs.declared.Answered.{Answered}
 use Rattle.history_buffers.specs.Numbers.{oneNumber}
 use Rattle.history_buffers.specs.Buffers.{answering, lentOf, Tested, testing, testOf}
-use Rattle.history_lent.specs.Rooms.{imageBuffer, listBuffer, lastImage, lastList, othersLength, firstImage, firstList, imageStart, listStart, Lending, lending}
+use Rattle.history_lent.specs.Rooms.{imageBuffer, listBuffer, lastImage, lastList, othersLength, firstImage, firstList, imageStart, listStart, lending}
 use Rattle.history_lent.specs.Images.{imageLine}
 use Rattle.history_lent.specs.Lists.{runLine}
 use Rattle.history_desk.specs.Desk.{lentCall, Out, out, lentOut, callBy, callLine, otherTest, imageTest, listTest, onBuffer, testLine, lineFrom, spokenOut, lineOut}

@@ -58,7 +58,15 @@ fn test_image(
         };
     }
     let from = IMAGE_BUFFER * k;
-    test_other(others, lengths, FIRST_IMAGE + k, from, IMAGE_BUFFER, word, numbers)
+    test_other(
+        others,
+        lengths,
+        FIRST_IMAGE + k,
+        from,
+        IMAGE_BUFFER,
+        word,
+        numbers,
+    )
 }
 
 fn test_list(
@@ -77,7 +85,15 @@ fn test_list(
         };
     }
     let from = LISTS_START + LIST_BUFFER * k;
-    test_other(others, lengths, FIRST_LIST + k, from, LIST_BUFFER, word, numbers)
+    test_other(
+        others,
+        lengths,
+        FIRST_LIST + k,
+        from,
+        LIST_BUFFER,
+        word,
+        numbers,
+    )
 }
 
 fn test_on(

@@ -26,7 +26,11 @@ fn say_fault(text: &mut [u8], at: usize, fault: Fault) -> usize {
         Fault::NoNumber => append(text, at, b" is no number"),
         Fault::Long => append(text, at, b" has more than ten digits"),
         Fault::Large => append(text, at, b" is above 4294967295"),
-        Fault::NoBuffer => append(text, at, b" is none of store, tables, image0 to image3, list0, list1"),
+        Fault::NoBuffer => append(
+            text,
+            at,
+            b" is none of store, tables, image0 to image3, list0, list1",
+        ),
         Fault::Word => append(text, at, b"a word too many"),
         Fault::Space => append(text, at, b"a space too many"),
         Fault::Beyond => append(text, at, b" is beyond what is there"),

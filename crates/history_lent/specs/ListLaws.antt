@@ -1,6 +1,6 @@
 -- What the code of runs uses of their meaning, where cells are lent from 0 on. Assumes nothing.
-use Prim.Native.Nat.{ℕ, suc, _+_, _-_, _≤_, _<_}
-use mathlib.Core.Path.{_≡_, refl, sym, ap, subst, _∙_}
+use Prim.Native.Nat.{ℕ, _+_, _-_, _≤_, _<_}
+use mathlib.Core.Path.{_≡_, sym, ap, _∙_}
 use mathlib.Core.Bool.{Bool, true, false}
 use mathlib.Core.List.{List, [], _∷_, _++_}
 use native.Mathlib.Nat.{sub-zero}
@@ -9,7 +9,7 @@ use borrow.Author.Tests.{lt-ltb, le-ltb, eq-eqb, ne-eqb}
 use lib.ListN.{length, take, drop, length-drop, length-map}
 use Rattle.combine.specs.Verdict.{Said, refused, done}
 use Rattle.combine.specs.Outcome.{Outcome}
-use Rattle.combine.specs.Run.{Ran, ran, onwards, runOver, admitted}
+use Rattle.combine.specs.Run.{Ran, onwards, runOver, admitted}
 use Rattle.rules.specs.Calls.{Request, uses, next, writes, fills}
 use Rattle.rules.specs.Runs.{requestsOf, admission}
 use Rattle.cells.specs.Says.{houseOf}

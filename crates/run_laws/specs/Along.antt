@@ -1,8 +1,8 @@
 -- Acts through one pointer that all are done and do nothing to the tables but move it: s is the store's cells, t the tables', i an entry of 32, p a
 -- pointer. Assumes nothing.
 use Prim.Native.Nat.{ℕ, suc, _+_, _≤_, _<_}
-use mathlib.Core.Path.{_≡_, refl, sym, ap, subst, _∙_}
-use mathlib.Core.List.{List, _++_}
+use mathlib.Core.Path.{_≡_, sym, ap, subst, _∙_}
+use mathlib.Core.List.{List}
 use native.Mathlib.Omega.{arith}
 use native.Mathlib.Numerals.{add-one}
 use lib.ListN.{length, getD, take, drop, take-append-drop}
@@ -34,9 +34,6 @@ pub record Steps (i p : ℕ) (a : Act) (s t : List ℕ) (v : ℕ) (s′ : List �
 
 module _ (i p : ℕ) (l : List Act) (s t : List ℕ) (w : Standing (length s) t i) (lp : p < allPointers) (k : ℕ) (some : 1 ≤ k) (few : k ≤ length l)
     (stores : ℕ → List ℕ) (from : stores 0 ≡ s) (tell : ℕ → ℕ) where
-  o : Opening
-  o = openingAt t i
-
   -- the state before act j
   at : ℕ → Lent
   at j = lent (stores j) (putOpening t i (pointed (openingAt t i) p (position (valueOf (openingAt t i) p + j))))

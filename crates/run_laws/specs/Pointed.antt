@@ -1,11 +1,11 @@
 -- An opening whose pointer moves on, put back where it was: t are the tables' cells, i an entry of 32, o an opening, p a pointer. Assumes nothing.
 use Prim.Native.Nat.{ℕ, _+_, _<_}
-use mathlib.Core.Path.{_≡_, refl, sym, ap, _∙_}
+use mathlib.Core.Path.{_≡_, ap, _∙_}
 use mathlib.Core.Logic.{_≢_}
 use mathlib.Core.List.{List, _++_, append-assoc}
 use native.Mathlib.Omega.{arith}
 use native.Mathlib.Nat.{add-zero}
-use lib.ListN.{length, take, drop, set, length-set}
+use lib.ListN.{length, take, drop, length-set}
 use lib.Seq.{paste, take-at, drop-paste, length-take-le, set-set, set-getD, getD-set-same, getD-set-other}
 use Rattle.placing.specs.declared.Position.{Position}
 use Rattle.placing.specs.Sizes.{tablesLength, entries, allPointers, openingLength}

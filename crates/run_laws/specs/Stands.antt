@@ -1,12 +1,12 @@
 -- A use of an open entry of sound tables leaves it so: "Every call leaves sound tables sound", which is why the tables are judged once a run.
 -- Assumes nothing.
-use Prim.Native.Nat.{ℕ, _%_, _≤_}
+use Prim.Native.Nat.{ℕ, _%_}
 use mathlib.Core.Path.{_≡_, refl, sym, ap, subst, _∙_}
 use mathlib.Core.Bool.{true}
 use mathlib.Core.Option.{Option, none, some}
 use mathlib.Core.List.{List, [], _∷_}
 use native.Mathlib.Omega.{arith}
-use lib.ListN.{length, drop}
+use lib.ListN.{length, getD}
 use Rattle.combine.specs.laws.Lists.{tab-at}
 use Rattle.combine.specs.Verdict.{Verdict, Said, refused, done, onDone}
 use Rattle.combine.specs.Outcome.{Outcome, outcomeOf, settle}
@@ -23,7 +23,7 @@ use Rattle.tables.specs.Layout.{openingAt}
 use Rattle.tables.specs.Fields.{isOpen}
 use Rattle.tables.specs.laws.Put.{opening-put}
 use Rattle.cells.specs.Says.{openingIn, decodedOpening, houseOf, asOpening, written}
-use Rattle.cells.specs.Outcomes.{Lent, lent, soundLent, requestOut}
+use Rattle.cells.specs.Outcomes.{Lent, lent, soundLent}
 use Rattle.cells.specs.laws.Written.{opening-shaped}
 use Rattle.cells.specs.laws.Lowered.{AllFit}
 use Rattle.cells.specs.laws.Uses.{verdictOn}
@@ -33,8 +33,8 @@ use Rattle.proof_requests_agree.specs.Requests.{request-sound}
 use Rattle.gate_laws.specs.Standing.{Standing, standing-reached, standing-long}
 use Rattle.gate_laws.specs.Used.{usedOut}
 use Rattle.gate_laws.specs.Gated.{request-used}
-use Rattle.run_laws.specs.Singles.{useOn, usesOn, Goes}
-use lib.ListN.{getD}
+use Rattle.run_laws.specs.Singles.{useOn, Goes}
+
 
 module _ (s t : List ℕ) (i : ℕ) (w : Standing (length s) t i) (a : Act) where
   pub use-used : useOn i a (lent s t) ≡ usedOut s t i (openingAt t i) (verdictOn a t (openingAt t i))

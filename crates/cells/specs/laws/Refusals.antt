@@ -11,7 +11,7 @@ use Rattle.answers.specs.laws.Said.{one-answer}
 use Rattle.combine.specs.Outcome.{Outcome, outcomeOf}
 use Rattle.combine.specs.laws.Outcome.{refusal-keeps}
 use Rattle.rules.specs.Calls.{fresh, load, save, Call, starts, asks, on, runs}
-use Rattle.cells.specs.Outcomes.{Lent, lent, outcome, Saved, saved, callOut, callImage, requestOut, runOut, freshOut, loadOut, saveOut}
+use Rattle.cells.specs.Outcomes.{Lent, lent, outcome, Saved, saved, callOut, callImage, requestOut, freshOut, loadOut, saveOut}
 use Rattle.cells.specs.laws.Runs.{run-refusal}
 
 pub refusal-keeps-cells : (c : Call) (s t : List ℕ) → isDone (callOut c s t .answer) ≡ false → callOut c s t .after ≡ lent s t

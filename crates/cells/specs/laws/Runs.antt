@@ -9,13 +9,13 @@ use lib.Dec.{eqb, ltb}
 use lib.ListN.{getD}
 use borrow.Author.Tests.{eqb-true}
 use Rattle.combine.specs.Verdict.{Verdict, Said, refused, done, isDone, onDone, refuse_when_else_}
-use Rattle.combine.specs.Outcome.{Outcome, outcomeOf, settle}
-use Rattle.combine.specs.Run.{Ran, ran, runOver, admitted}
+use Rattle.combine.specs.Outcome.{outcomeOf, settle}
+use Rattle.combine.specs.Run.{Ran, runOver, admitted}
 use Rattle.combine.specs.laws.Below.{not-both}
 use Rattle.combine.specs.laws.Outcome.{refusal-keeps}
 use Rattle.combine.specs.laws.Run.{run-refused, run-stops}
 use Rattle.placing.specs.Sizes.{greatestUser, greatestEntry, entryOf}
-use Rattle.rules.specs.Calls.{Request, Act, uses, write, next, Run, writes, fills}
+use Rattle.rules.specs.Calls.{Request, uses, write, next, Run, writes, fills}
 use Rattle.rules.specs.Headings.{Handle, value, handleOf}
 use Rattle.rules.specs.Effects.{Use, Effect, used}
 use Rattle.rules.specs.Access.{writeRule, nextRule, pointerGate}
