@@ -32,6 +32,7 @@ use Rattle.gate_laws.specs.Used.{usedOut}
 use Rattle.run_laws.specs.Singles.{useOn, nextsOf, Goes}
 use Rattle.run_laws.specs.Stands.{use-used, one-goes}
 use Rattle.run_laws.specs.Along.{Steps, goes-along}
+use Rattle.run_spans.specs.Ahead.{Follow}
 use Rattle.run_takes.specs.Takes.{taken, Points, Far, Took}
 use Rattle.run_takes.proofs.Laws.{length-taken}
 use Rattle.call_next_prev.specs.declared.Reading.{Reading}
@@ -58,6 +59,9 @@ nexts-at p (x ∷ l) zero h = refl
 nexts-at p (x ∷ l) (suc j) h = nexts-at p l j (le-of-suc-le-suc h)
 
 -- ---- the single calls of a stretch
+
+pub far-follows : (o : Opening) (p left k : ℕ) → Far o p left k → Follow (o .species) (valueOf o p) k
+far-follows o p left k f = record { same = f .same }
 
 module _ (i p : ℕ) (s t l : List ℕ) (n k : ℕ) where
   -- with the opening o: the elements are told, and the pointer moves

@@ -35,7 +35,6 @@ use Rattle.gate_laws.specs.Used.{usedOut}
 use Rattle.gate_laws.specs.Gated.{request-used}
 use Rattle.run_laws.specs.Singles.{useOn, Goes}
 
-
 module _ (s t : List ℕ) (i : ℕ) (w : Standing (length s) t i) (a : Act) where
   pub use-used : useOn i a (lent s t) ≡ usedOut s t i (openingAt t i) (verdictOn a t (openingAt t i))
   unfolding useOn

@@ -1,40 +1,42 @@
 -- Elements put one after another, as the code's steps give their premises. Assumes nothing.
-use Prim.Native.Nat.{ℕ, _+_, _≤_}
+use Prim.Native.Nat.{ℕ, zero, suc, _+_, _*_, _/_, _%_, _≤_, _<_}
 use mathlib.Core.Path.{_≡_, refl, sym, ap, _∙_}
 use mathlib.Core.List.{List}
 use native.Mathlib.Numerals.{add-one}
 use native.Mathlib.Omega.{arith}
-use lib.ListN.{getD}
+use lib.ListN.{getD, set}
+use Rattle.packing.specs.Packing.{putBits}
 use Rattle.placing.specs.declared.Segment.{Segment}
 use Rattle.placing.specs.declared.Position.{Position}
-use Rattle.placing.specs.Sizes.{greatestEnd}
-use Rattle.placing.specs.Placing.{position, stretchOf}
-use Rattle.store.specs.Store.{putElement}
+use Rattle.placing.specs.Sizes.{segmentCells, greatestSpecies, widthOf, greatestEnd}
+use Rattle.placing.specs.Placing.{position, stretchOf, cellOf, bitOf}
 use Rattle.tables.specs.declared.Opening.{Opening}
 use Rattle.tables.specs.Layout.{positionNumber, putOpening}
 use Rattle.tables.specs.Fields.{valueOf}
 use Rattle.tables.specs.Handles.{pointed}
-use Rattle.run_spans.specs.Ahead.{Ahead, Fewer}
-use Rattle.run_puts.specs.Puts.{putFirst, limitOf}
+use Rattle.run_spans.specs.Ahead.{Ahead, Follow, Fewer}
+use Rattle.run_spans.specs.Bits.{Row}
+use Rattle.run_spans.specs.laws.Bits.{row-starts, row-goes-on, row-lies, row-few, put-is, stretch-row}
+use Rattle.run_puts.specs.Puts.{putFirst, putRow, limitOf}
 use Rattle.run_puts.specs.laws.Limits.{limit-end, limit-other}
 
--- ---- the loop: s is the store where j elements are put
+-- ---- the loop: s is the store where j elements are put, a the bits before the next
 
-module _ (s₀ : List ℕ) (k : ℕ) (g : Segment) (v : ℕ) (l : List ℕ) where
-  pub put-none : s₀ ≡ putFirst s₀ k g v l 0
-  unfolding putFirst
+module _ (s₀ : List ℕ) (b w : ℕ) (l : List ℕ) where
+  pub put-none : s₀ ≡ putRow s₀ b w l 0
+  unfolding putRow
   put-none = refl
 
-  pub put-more : (s : List ℕ) (j : ℕ) (x : Position) (n : ℕ) (s′ : List ℕ) → s ≡ putFirst s₀ k g v l j → x .0 ≡ v + j → n ≡ getD l j 0 → s′ ≡ putElement s k g x n
-      → s′ ≡ putFirst s₀ k g v l (j + 1)
-  unfolding putFirst
-  put-more s j x n s′ es ex en e =
-      e ∙ (λ i. putElement (es i) k g (position (ex i)) (en i)) ∙ ap (putFirst s₀ k g v l) (sym (add-one j))
+  pub put-more : (s : List ℕ) (j a n : ℕ) (s′ : List ℕ) → s ≡ putRow s₀ b w l j → a ≡ b + j * w → n ≡ getD l j 0 → s′ ≡ set s (a / 32) (putBits w (a % 32) (getD s (a / 32) 0) n)
+      → s′ ≡ putRow s₀ b w l (j + 1)
+  unfolding putRow
+  put-more s j a n s′ es ea en e =
+      e ∙ (λ i. set (es i) (ea i / 32) (putBits w (ea i % 32) (getD (es i) (ea i / 32) 0) (en i))) ∙ ap (putRow s₀ b w l) (sym (add-one j))
 
-  pub put-ends : (s : List ℕ) (j n : ℕ) → s ≡ putFirst s₀ k g v l j → j ≤ n → n ≤ j → s ≡ putFirst s₀ k g v l n
-  put-ends s j n es h m = let e : j ≡ n = omega arith in es ∙ ap (putFirst s₀ k g v l) e
+  pub put-ends : (s : List ℕ) (j n : ℕ) → s ≡ putRow s₀ b w l j → j ≤ n → n ≤ j → s ≡ putRow s₀ b w l n
+  put-ends s j n es h m = let e : j ≡ n = omega arith in es ∙ ap (putRow s₀ b w l) e
 
-pub ruleset puts = (put-none, put-more, put-ends)
+pub ruleset puts = (put-none, put-more, put-ends, row-starts, row-goes-on, row-lies, row-few)
 
 -- ---- the first position that is not written at
 
@@ -45,6 +47,25 @@ pub limit-inner : (o : Opening) (p : ℕ) (x : Position) → (p ≡ 1 → ⊥) �
 limit-inner o p x d e = e ∙ sym (limit-other o p d)
 
 pub ruleset limits = (limit-append, limit-inner)
+
+-- ---- elements of one stretch, put one after another
+
+-- x is the first position, b the bits before its element, w the width
+module _ (k : ℕ) (h : k ≤ greatestSpecies) (g : Segment) (x : Position) (some : 1 ≤ x .0) (b : ℕ) (eb : b ≡ cellOf k g x .0 * 32 + bitOf k x) (w : ℕ) (ew : w ≡ widthOf k) where
+  row-first : (s l : List ℕ) (many : ℕ) → ((j : ℕ) → j < many → stretchOf k (x .0 + j) ≡ stretchOf k (x .0)) → putRow s b w l many ≡ putFirst s k g (x .0) l many
+  unfolding putRow putFirst
+  row-first s l zero f = refl
+  row-first s l (suc j) f =
+      ap (λ (z : List ℕ). set z ((b + j * w) / 32) (putBits w ((b + j * w) % 32) (getD z ((b + j * w) / 32) 0) (getD l j 0))) (row-first s l j (λ i q. f i (omega (arith, q))))
+      ∙ put-is k h g (x .0) some b eb w ew j (f j (omega arith)) (putFirst s k g (x .0) l j) (getD l j 0)
+
+  pub all-lie : (cells many : ℕ) → g .0 * segmentCells + segmentCells ≤ cells → g .0 < 4294967296 → Follow k (x .0) many → Row cells b w many
+  all-lie cells many fits small f = stretch-row k h g (x .0) some b eb w ew cells many fits small f
+
+  pub all-put : (s l : List ℕ) (many : ℕ) (s′ : List ℕ) → Follow k (x .0) many → s′ ≡ putRow s b w l many → s′ ≡ putFirst s k g (x .0) l many
+  all-put s l many s′ f e = e ∙ row-first s l many (f .same)
+
+pub ruleset alls = (all-lie, all-put)
 
 -- ---- a stretch: v is the pointer's value, and k elements are put
 
@@ -59,6 +80,9 @@ module _ (o : Opening) (p : ℕ) (v : Position) (ev : v .0 ≡ valueOf o p) (k :
         before = omega arith;
         same = λ j q. ap (λ (x : ℕ). stretchOf (o .species) (x + j)) (sym ev) ∙ a .same j (omega arith) ∙ ap (stretchOf (o .species)) ev;
       }
+
+  pub stretch-follows : (e : Position) (m : ℕ) → Ahead (o .species) (v .0) (e .0) m → (n : ℕ) → Fewer m n k → Follow (o .species) (v .0) k
+  stretch-follows e m a n f = record { same = λ j q. a .same j (let c = f .first in omega (arith, q)) }
 
   pub stretch-store : (s : List ℕ) (g : Segment) (l s′ : List ℕ) → s′ ≡ putFirst s (o .species) g (v .0) l k → s′ ≡ putFirst s (o .species) g (valueOf o p) l k
   stretch-store s g l s′ e = e ∙ ap (λ (x : ℕ). putFirst s (o .species) g x l k) ev

@@ -1,11 +1,12 @@
 -- Elements of a run that lie in one segment: s is the store's cells, t the tables', i an entry of 32, o its opening, p a pointer, l a list of
 -- numbers. Assumes nothing.
-use Prim.Native.Nat.{ℕ, zero, suc, _+_, _≤_, _<_}
+use Prim.Native.Nat.{ℕ, zero, suc, _+_, _*_, _/_, _%_, _≤_, _<_}
 use mathlib.Core.Path.{_≡_}
 use mathlib.Core.Bool.{cond}
 use mathlib.Core.List.{List}
 use lib.Dec.{eqb}
-use lib.ListN.{length, getD}
+use lib.ListN.{length, getD, set}
+use Rattle.packing.specs.Packing.{putBits}
 use Rattle.placing.specs.declared.Segment.{Segment}
 use Rattle.placing.specs.Sizes.{Cells, greatestEnd, greatestSpecies, allPointers}
 use Rattle.placing.specs.Placing.{position}
@@ -20,6 +21,14 @@ use Rattle.run_spans.specs.Ahead.{Ahead}
 unfoldable pub putFirst : (store : Cells) (species : ℕ) → Segment → (first : ℕ) (list : List ℕ) (many : ℕ) → Cells
 putFirst s k g v l zero = s
 putFirst s k g v l (suc j) = putElement (putFirst s k g v l j) k g (position (v + j)) (getD l j 0)
+
+-- the store with so many elements of the list put, each of a width, one after another from some bits on
+unfoldable pub putRow : (store : Cells) (bits width : ℕ) (list : List ℕ) (many : ℕ) → Cells
+putRow s b w l zero = s
+putRow s b w l (suc j) =
+    let st = putRow s b w l j in
+    let a = b + j * w in
+    set st (a / 32) (putBits w (a % 32) (getD st (a / 32) 0) (getD l j 0))
 
 -- the first position that pointer p does not write at: "An append refused for 10: e is 16,777,215."; "p not 1 and v >= e is 7"
 unfoldable pub limitOf : Opening → (pointer : ℕ) → ℕ

@@ -3,13 +3,31 @@ ghost use mathlib.Core.Path.{_≡_};
 ghost use Prim.Native.Nat.{_+_, _*_, _≤_, _<_};
 ghost use lib.ListN.{length};
 ghost use Rattle.placing.specs.Sizes.{segmentCells, greatestEnd, greatestSpecies, tablesLength, entries};
-ghost use Rattle.run_puts.specs.Puts.{putFirst, limitOf, Points, Stretched};
+ghost use Rattle.run_spans.specs.Ahead.{Follow};
+ghost use Rattle.run_spans.specs.Bits.{Row};
+ghost use Rattle.run_puts.specs.Puts.{putRow, putFirst, limitOf, Points, Stretched};
 use placing::GREATEST_END;
 use placing::Position;
 use placing::Segment;
+use run_spans::bits::bits_to;
+use run_spans::bits::put_after;
 use tables::Opening;
 
-// So many elements of a list, from a position on, all into one segment.
+// So many elements of a list, each of a width, one after another from some bits on.
+fn put_row(store: &mut [u32], from: usize, width: u32, list: &[u32], count: usize)
+    requires { ⌜ Row (length (now store)) from width count × (count ≤ length (now list)) ⌝ }
+    ensures { λ _. ⌜ now (store .exit) ≡ putRow (now (store .entry)) from width (now (list .entry)) count ⌝ }
+{
+    let mut bits = from;
+    let mut j: usize = 0;
+    while j < count {
+        put_after(store, bits, width, list[j]);
+        bits += width as usize;
+        j += 1;
+    }
+}
+
+// So many elements of a list, from a position on, all of one stretch, into its segment.
 fn put_all(
     store: &mut [u32],
     species: u32,
@@ -19,15 +37,12 @@ fn put_all(
     count: usize,
 )
     requires { ⌜ segment .0 * segmentCells + segmentCells ≤ length (now store) ⌝ }
-    requires { ⌜ (1 ≤ first .0) × (first .0 + count ≤ greatestEnd) × (species ≤ greatestSpecies) × (count ≤ length (now list)) ⌝ }
+    requires { ⌜ (1 ≤ first .0) × (species ≤ greatestSpecies) × (count ≤ length (now list)) × Follow species (first .0) count ⌝ }
     ensures { λ _. ⌜ now (store .exit) ≡ putFirst (now (store .entry)) species segment (first .0) (now (list .entry)) count ⌝ }
 {
-    let mut j: usize = 0;
-    while j < count {
-        let at = run_spans::on_by(first, j);
-        store::put_element(store, species, segment, at, list[j]);
-        j += 1;
-    }
+    let width = placing::width(species);
+    let from = bits_to(segment, first, species);
+    put_row(store, from, width, list, count);
 }
 
 // The first position that the pointer does not write at.

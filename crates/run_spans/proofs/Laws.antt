@@ -4,10 +4,12 @@ use mathlib.Core.Path.{_≡_, ap, _∙_}
 use native.Mathlib.Nat.{lt-mul-div-succ, div-lt-iff-lt-mul, mul-comm}
 use native.Mathlib.Omega.{arith}
 use borrow.Author.Tests.{lt-ltb}
+use Rattle.placing.specs.declared.Segment.{Segment}
 use Rattle.placing.specs.declared.Position.{Position}
+use Rattle.placing.specs.declared.Cell.{Cell}
 use Rattle.placing.specs.Sizes.{greatestSpecies, elementsOf}
-use Rattle.placing.specs.Placing.{position, stretchOf, claimOf}
-use Rattle.placing.specs.laws.Sized.{elements-many, stretch-mono}
+use Rattle.placing.specs.Placing.{position, stretchOf, claimOf, cellOf, bitOf}
+use Rattle.placing.specs.laws.Sized.{elements-many, stretch-mono, cell-in}
 use Rattle.run_spans.specs.Ahead.{Ahead}
 
 module _ (s : ℕ) (h : s ≤ greatestSpecies) (v : ℕ) (some : 1 ≤ v) where
@@ -52,3 +54,14 @@ pub ruleset spans = (here-ahead, before-ahead)
 
 pub moved-on : (x y : Position) (v k m : ℕ) → y ≡ position m → m ≡ v + k → v ≡ x .0 → y .0 ≡ x .0 + k
 moved-on x y v k m e em ev = let z = ap (λ (q : Position). q .0) e in omega arith
+
+-- ---- the bits before an element: i is the index of its cell, b its bit there
+
+-- 2^32 segments of 64 cells, which no store has
+pub cell-small : (s : ℕ) (g : Segment) (x : Position) (cell : Cell) (i : ℕ) → s ≤ greatestSpecies → g .0 < 4294967296 → cell ≡ cellOf s g x → i ≡ cell .0 → i < 274877911040
+cell-small s g x cell i h lg ec ei = omega (arith, ap (λ (c : Cell). c .0) ec, cell-in s h g x .1)
+
+pub bits-told : (s : ℕ) (g : Segment) (x : Position) (cell : Cell) (i b : ℕ) → cell ≡ cellOf s g x → i ≡ cell .0 → b ≡ bitOf s x → i * 32 + b ≡ cellOf s g x .0 * 32 + bitOf s x
+bits-told s g x cell i b ec ei eb = λ j. (ei ∙ ap (λ (c : Cell). c .0) ec) j * 32 + eb j
+
+pub ruleset bits = (cell-small, bits-told)

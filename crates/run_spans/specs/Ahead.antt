@@ -9,6 +9,10 @@ pub record Ahead (species first beyond many : ℕ) : Type 0 where
   pub before : first + many ≤ beyond
   pub same : (j : ℕ) → j < many → stretchOf species (first + j) ≡ stretchOf species first
 
+-- so many positions from the first on are of its stretch
+pub record Follow (species first many : ℕ) : Type 0 where
+  pub same : (j : ℕ) → j < many → stretchOf species (first + j) ≡ stretchOf species first
+
 -- the lower of two numbers
 pub record Fewer (a b many : ℕ) : Type 0 where
   pub first : many ≤ a

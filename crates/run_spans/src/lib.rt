@@ -5,6 +5,8 @@ ghost use Rattle.placing.specs.Sizes.{greatestSpecies, greatestEnd};
 ghost use Rattle.run_spans.specs.Ahead.{Ahead, Fewer};
 use placing::Position;
 
+pub mod bits; // elements by the bits before them
+
 // How many positions from `first` on lie in its stretch and before `beyond`.
 pub fn ahead(species: u32, first: Position, beyond: Position) -> u32
     requires { ⌜ (species ≤ greatestSpecies) × (1 ≤ first .0) × (first .0 < beyond .0) × (beyond .0 ≤ greatestEnd) ⌝ }

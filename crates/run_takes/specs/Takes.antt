@@ -1,9 +1,11 @@
 -- Elements one after another in one segment: s is the store's cells, t the tables', i an entry of 32, o its opening, p a pointer, g a segment.
 -- Assumes nothing.
-use Prim.Native.Nat.{ℕ, _+_, _≤_, _<_}
+use Prim.Native.Nat.{ℕ, _+_, _*_, _/_, _%_, _≤_, _<_}
 use mathlib.Core.Path.{_≡_}
 use mathlib.Core.List.{List}
+use lib.ListN.{getD}
 use lib.Seq.{paste}
+use Rattle.packing.specs.Packing.{takeBits}
 use Rattle.combine.specs.Lists.{tab}
 use Rattle.placing.specs.declared.Segment.{Segment}
 use Rattle.placing.specs.Sizes.{Cells, greatestEnd, greatestSpecies, allPointers}
@@ -17,6 +19,10 @@ use Rattle.tables.specs.Handles.{pointed}
 -- so many elements, from a position on
 unfoldable pub taken : (store : Cells) (species : ℕ) → Segment → (first many : ℕ) → List ℕ
 taken s k g v n = tab n (λ j. elementAt s k g (position (v + j)))
+
+-- so many, each of a width, one after another from some bits on
+unfoldable pub takenRow : (store : Cells) (bits width many : ℕ) → List ℕ
+takenRow s b w n = tab n (λ j. takeBits w ((b + j * w) % 32) (getD s ((b + j * w) / 32) 0))
 
 -- the pointer's value is a position of the file
 pub record Points (o : Opening) (p : ℕ) : Type 0 where

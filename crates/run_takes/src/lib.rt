@@ -5,9 +5,13 @@ ghost use lib.ListN.{length, set};
 ghost use lib.Seq.{paste};
 ghost use Rattle.placing.specs.Sizes.{segmentCells, greatestEnd, greatestSpecies, tablesLength, entries};
 ghost use Rattle.tables.specs.Fields.{valueOf};
-ghost use Rattle.run_takes.specs.Takes.{taken, Points, Far, Took};
+ghost use Rattle.run_spans.specs.Ahead.{Follow};
+ghost use Rattle.run_spans.specs.Bits.{Row};
+ghost use Rattle.run_takes.specs.Takes.{taken, takenRow, Points, Far, Took};
 use placing::Position;
 use placing::Segment;
+use run_spans::bits::bits_to;
+use run_spans::bits::take_after;
 use tables::Opening;
 
 // How many elements from a pointer's value on are of one stretch, of so many that are left. "Through 0 the element leaves the
@@ -33,7 +37,22 @@ fn fill_place(list: &mut [u32], place: usize, element: u32)
     list[place] = element;
 }
 
-// So many elements from a position on, all of one segment, into a list from a place on.
+// So many elements, each of a width, one after another from some bits on, into a list from a place on.
+fn take_row(store: &[u32], first: usize, width: u32, list: &mut [u32], from: usize, count: usize)
+    requires { ⌜ Row (length (now store)) first width count × (from + count ≤ length (now list)) ⌝ }
+    ensures { λ _. ⌜ now (list .exit) ≡ paste (now (list .entry)) from (takenRow (now (store .entry)) first width count) count ⌝ }
+{
+    let mut bits = first;
+    let mut n: usize = 0;
+    while n < count {
+        let element = take_after(store, bits, width);
+        fill_place(list, from + n, element);
+        bits += width as usize;
+        n += 1;
+    }
+}
+
+// So many elements from a position on, all of one stretch, from its segment into a list from a place on.
 fn take_all(
     store: &[u32],
     species: u32,
@@ -44,16 +63,12 @@ fn take_all(
     count: usize,
 )
     requires { ⌜ segment .0 * segmentCells + segmentCells ≤ length (now store) ⌝ }
-    requires { ⌜ (1 ≤ first .0) × (first .0 + count ≤ greatestEnd) × (species ≤ greatestSpecies) × (from + count ≤ length (now list)) ⌝ }
+    requires { ⌜ (1 ≤ first .0) × (species ≤ greatestSpecies) × (from + count ≤ length (now list)) × Follow species (first .0) count ⌝ }
     ensures { λ _. ⌜ now (list .exit) ≡ paste (now (list .entry)) from (taken (now (store .entry)) species segment (first .0) count) count ⌝ }
 {
-    let mut n: usize = 0;
-    while n < count {
-        let at = run_spans::on_by(first, n);
-        let element = store::take_element(store, species, segment, at);
-        fill_place(list, from + n, element);
-        n += 1;
-    }
+    let width = placing::width(species);
+    let bits = bits_to(segment, first, species);
+    take_row(store, bits, width, list, from, count);
 }
 
 // So many elements from a pointer's value on: the pointer moves once, and the opening is put back once.
@@ -68,7 +83,7 @@ pub fn take_stretch(
     from: usize,
     count: usize,
 )
-    requires { ⌜ (length (now tables) ≡ tablesLength) × (entry < entries) × (segment .0 * segmentCells + segmentCells ≤ length (now store)) × Points opening pointer × (valueOf opening pointer + count ≤ valueOf opening 1) × (from + count ≤ length (now list)) ⌝ }
+    requires { ⌜ (length (now tables) ≡ tablesLength) × (entry < entries) × (segment .0 * segmentCells + segmentCells ≤ length (now store)) × Points opening pointer × (valueOf opening pointer + count ≤ valueOf opening 1) × (from + count ≤ length (now list)) × Follow (opening .species) (valueOf opening pointer) count ⌝ }
     ensures { λ _. ⌜ Took (now (store .entry)) (now (tables .entry)) entry opening pointer segment (now (list .entry)) from count (now (tables .exit)) (now (list .exit)) ⌝ }
 {
     let value = opening.value(pointer);

@@ -1,5 +1,5 @@
 use borrow.Author.Needs.{needs}
-use Rattle.call_fill_run.proofs.Turns.{turns}
+use Rattle.call_fill_run.proofs.Turns.{far-follows, turns}
 use Rattle.call_fill_run.proofs.advance.Statement.{statement}
 use Rattle.call_fill_run.proofs.advance.Tie as tie
 
@@ -34,7 +34,7 @@ returns : tie.Need-returns
 returns c = search needs
 
 take-stretch-requires : tie.Need-take-stretch-requires
-take-stretch-requires c κs = (search (turns, needs), search (turns, needs), search (turns, needs), search (turns, needs), search needs, search needs)
+take-stretch-requires c κs = (search (turns, needs), search (turns, needs), search (turns, needs), search (turns, needs), search needs, search needs, search (far-follows, needs))
 
 same-length-3 : tie.Need-same-length-3
 same-length-3 c = search needs

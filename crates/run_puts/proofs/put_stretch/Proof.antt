@@ -1,5 +1,5 @@
 use borrow.Author.Needs.{needs}
-use Rattle.run_puts.proofs.Laws.{stretches, stretch-ahead}
+use Rattle.run_puts.proofs.Laws.{stretches, stretch-ahead, stretch-follows}
 use Rattle.run_puts.proofs.put_stretch.Statement.{statement}
 use Rattle.run_puts.proofs.put_stretch.Tie as tie
 
@@ -16,7 +16,8 @@ fewer-requires : tie.Need-fewer-requires
 fewer-requires c κs = search needs
 
 put-all-requires : tie.Need-put-all-requires
-put-all-requires c κs = search needs
+put-all-requires c κs =
+    (search needs, (search needs, search needs, search needs, stretch-follows _ _ _ (c .before .before .before .before .value .ensures) _ _ _ (c .before .before .ahead .ensures) _ (c .before .fewer .ensures)))
 
 on-by-requires : tie.Need-on-by-requires
 on-by-requires c κs = search needs

@@ -1,5 +1,5 @@
 use borrow.Author.Needs.{needs}
-use Rattle.run_takes.proofs.Laws.{took}
+use Rattle.run_takes.proofs.Laws.{take-follows, took}
 use Rattle.run_takes.proofs.take_stretch.Statement.{statement}
 use Rattle.run_takes.proofs.take_stretch.Tie as tie
 
@@ -7,7 +7,8 @@ value-requires : tie.Need-value-requires
 value-requires c κs = search needs
 
 take-all-requires : tie.Need-take-all-requires
-take-all-requires c κs = search needs
+take-all-requires c κs =
+    (search needs, (search needs, search needs, search needs, take-follows _ _ _ _ (c .before .value .ensures) (c .before .before .before .before .before .pre .6)))
 
 on-by-requires : tie.Need-on-by-requires
 on-by-requires c κs = search needs
