@@ -1,5 +1,5 @@
--- Laws of runs on cells: a run that is refused leaves all as it stood; and a run of at least one element is its single calls, for what is judged
--- before the first is judged by it too. Assumes nothing.
+-- Laws of runs on cells: a run that is refused leaves all as it stood; a run of at least one element is its single calls, for what is judged before
+-- the first is judged by it too; and what a run hands over admits one outcome. Assumes nothing.
 use Prim.Native.Nat.{ℕ}
 use mathlib.Core.Path.{_≡_, refl, sym, ap, _∙_}
 use mathlib.Core.Bool.{Bool, true, false, not, _&&_, cond}
@@ -26,6 +26,7 @@ use Rattle.segments.specs.Free.{SegmentOpening}
 use Rattle.segments.specs.Deeds.{segmentLevel}
 use Rattle.cells.specs.Says.{houseOf}
 use Rattle.cells.specs.Outcomes.{Lent, lent, soundLent, performed, requestOut, runOut}
+use Rattle.cells.specs.Runs.{Written, written, Filled, filled}
 
 -- ---- refused
 
@@ -116,3 +117,17 @@ module _ (s t : List ℕ) (u e : ℕ) where
       alike : (x : Option SegmentOpening) → Same (admits (fills p (n ∷ l)) (handleOf x)) (own (uses (next p)) x)
       alike none = refl
       alike (some x) = gate-same p (eqb p 0) (x .handle) _ _
+
+-- ---- a promise that is an equation of what a run hands over "admits one outcome"
+
+pub one-written : (w : Written) (l l′ : List ℕ) (n n′ : ℕ) (x x′ : Lent) → written l n x ≡ w → written l′ n′ x′ ≡ w → (l ≡ l′) × (n ≡ n′) × (x ≡ x′)
+unfolding written
+one-written w l l′ n n′ x x′ p q =
+    let e = p ∙ sym q in
+    (ap (λ (y : Written). y .rest) e, ap (λ (y : Written). y .place) e, ap (λ (y : Written). y .cells) e)
+
+pub one-filled : (f : Filled) (k k′ n n′ : ℕ) (l l′ : List ℕ) (x x′ : Lent) → filled k n l x ≡ f → filled k′ n′ l′ x′ ≡ f → (k ≡ k′) × (n ≡ n′) × (l ≡ l′) × (x ≡ x′)
+unfolding filled
+one-filled f k k′ n n′ l l′ x x′ p q =
+    let e = p ∙ sym q in
+    (ap (λ (y : Filled). y .many) e, ap (λ (y : Filled). y .place) e, ap (λ (y : Filled). y .list) e, ap (λ (y : Filled). y .cells) e)
