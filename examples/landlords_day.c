@@ -95,10 +95,17 @@ static void read_and_be_refused(void) {
     open_for("work", "lift 7", dorrivand_work(LENT, 5, 0, NAMED("lift 7")));
 }
 
+/* A file that is opened for work has its work pointer at the end. */
+static uint64_t replace_first(uint32_t user, uint32_t entry, uint32_t number) {
+    uint64_t answer = dorrivand_reset(LENT, user, entry);
+    if (!dorrivand_is_done(answer)) return answer;
+    return dorrivand_write(LENT, user, entry, DORRIVAND_WORK, number);
+}
+
 static void edit(void) {
     part("Landlord 2 edits lift 7 and abandons the edit: nothing of it is left.");
     open_for("work", "lift 7", dorrivand_work(LENT, 2, 0, NAMED("lift 7")));
-    did("replace the first by 999", dorrivand_write(LENT, 2, 0, DORRIVAND_WORK, 999));
+    did("replace the first by 999", replace_first(2, 0, 999));
     got("take the last away", dorrivand_prev(LENT, 2, 0, DORRIVAND_END));
     did("append 111", dorrivand_write(LENT, 2, 0, DORRIVAND_END, 111));
     got("free segments", dorrivand_free(LENT, 2));

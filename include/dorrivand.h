@@ -55,7 +55,7 @@ enum dorrivand_species {
 };
 
 /* The version that this header belongs to: it grows by 1 with each change that a caller can notice. */
-#define DORRIVAND_VERSION 2
+#define DORRIVAND_VERSION 3
 
 /* The version of the library that is linked. */
 uint32_t dorrivand_version(void);
@@ -99,13 +99,13 @@ uint64_t dorrivand_free(const uint32_t *store, size_t store_length, const uint32
 
 /* ---- Opening ---- */
 
-/* New: makes an empty scratch file of the species, with work permit.
+/* New: makes an empty scratch file of the species, with work permit. The work pointer stands at the begin, which is 1.
  * Refusals: 20; 1; 2 (entry above 3); 3; 19. */
 uint64_t dorrivand_new(const uint32_t *store, size_t store_length, uint32_t *tables, size_t tables_length,
                        uint32_t user, uint32_t entry, uint32_t species);
 
 /* Work: opens a permanent file by name, with work permit: the user's own record of that name first, then a public one.
- * The work pointer stands at the begin.
+ * The work pointer stands at the end: to read or change what is there already, reset first.
  * Refusals: 20; 1; 2 (entry above 3); 3; 15; 12 when neither is there and another user has a private file of that name,
  * else 11; 13 for another's public file; 14 if any opening of the record exists. */
 uint64_t dorrivand_work(const uint32_t *store, size_t store_length, uint32_t *tables, size_t tables_length,

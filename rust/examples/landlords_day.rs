@@ -75,10 +75,16 @@ fn read_and_be_refused(store: &mut Store) {
     did("open for work \"lift 7\"", store.open_work(5, 0, "lift 7"));
 }
 
+/// A file that is opened for work has its work pointer at the end.
+fn replace_first(store: &mut Store, user: u32, entry: u32, number: u32) -> Result<(), Refusal> {
+    store.reset(user, entry)?;
+    store.write(user, entry, pointer::WORK, number)
+}
+
 fn edit(store: &mut Store) {
     part("Landlord 2 edits lift 7 and abandons the edit: nothing of it is left.");
     did("open for work \"lift 7\"", store.open_work(2, 0, "lift 7"));
-    did("replace the first by 999", store.write(2, 0, pointer::WORK, 999));
+    did("replace the first by 999", replace_first(store, 2, 0, 999));
     got("take the last away", store.prev(2, 0, pointer::END));
     did("append 111", store.write(2, 0, pointer::END, 111));
     got("free segments", store.free_segments(2));

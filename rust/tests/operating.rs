@@ -80,7 +80,7 @@ fn an_image_in_the_other_byte_order_is_refused() {
 #[test]
 fn a_backup_while_a_file_is_open() {
     let mut store = restored(1, |image| image[0] = heading(3)).expect("a sound image");
-    assert_eq!(store.open_work(0, 3, "a"), Ok(()));
+    assert_eq!((store.open_work(0, 3, "a"), store.reset(0, 3)), (Ok(()), Ok(())));
     assert_eq!(store.write(0, 3, pointer::WORK, 999), Ok(()));
     let mut backup = loaded(&store, &image_of(&store), 0).expect("a sound image");
     assert_eq!(backup.begin(0, 3), Err(Refusal::EntryNotOpen));

@@ -73,7 +73,7 @@ fn access() {
     assert_eq!(store.open_read(0, 1, "ours"), Ok(()));
     refused(&mut store, 5, |store| store.write(0, 1, pointer::END, 7));
     refused(&mut store, 5, |store| store.rename(0, 1, "a"));
-    assert_eq!(store.open_work(0, 0, "mine"), Ok(()));
+    assert_eq!((store.open_work(0, 0, "mine"), store.reset(0, 0)), (Ok(()), Ok(())));
     refused(&mut store, 6, |store| store.prev(0, 0, pointer::WORK));
     refused(&mut store, 9, |store| store.write(0, 0, pointer::WORK, 8));
     assert_eq!(store.next(0, 0, pointer::WORK), Ok(7));
@@ -90,7 +90,7 @@ fn runs_of_one_element() {
     assert_eq!(store.open_read(0, 1, "ours"), Ok(()));
     stopped(&mut store, 4, (0, 1), 3);
     stopped(&mut store, 5, (0, 1), pointer::BEGIN);
-    assert_eq!(store.open_work(0, 0, "mine"), Ok(()));
+    assert_eq!((store.open_work(0, 0, "mine"), store.reset(0, 0)), (Ok(()), Ok(())));
     assert_eq!(store.new_pointer(0, 0, pointer::END), Ok(3));
     stopped(&mut store, 7, (0, 0), 3);
     refused(&mut store, 9, |store| store.write_run(0, 0, pointer::WORK, &[8]).1.map_or(Ok(()), Err));

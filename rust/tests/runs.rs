@@ -94,7 +94,7 @@ fn stopped_by_room_positions_and_a_33rd_segment() {
     // A write into a record's segment needs another one, and there is none.
     let mut store = store_with(1, Species::Bits32, &[1, 2]);
     assert_eq!((store.rename(0, 0, "a"), store.close_private(0, 0)), (Ok(()), Ok(())));
-    assert_eq!(store.open_work(0, 0, "a"), Ok(()));
+    assert_eq!((store.open_work(0, 0, "a"), store.reset(0, 0)), (Ok(()), Ok(())));
     let (rest, stop) = store.write_run(0, 0, pointer::WORK, &[3]);
     assert_eq!((rest, stop), (&[3][..], Some(Refusal::NoRoom)));
 }

@@ -14,6 +14,7 @@ fn some_calls(store: &mut Store) -> Result<u32, Refusal> {
     store.rename(3, 1, "a")?;
     store.close_public(3, 1)?;
     store.open_work(3, 2, "a")?;
+    store.reset(3, 2)?;
     store.write(3, 2, pointer::WORK, 3)?;
     store.free_segments(3)
 }

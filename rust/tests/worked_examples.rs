@@ -108,6 +108,24 @@ fn abandoned_work_leaves_the_file_as_it_was() {
     assert_eq!(store.next(0, 0, pointer::WORK), Err(Refusal::BeyondEnd));
 }
 
+/// "a work opening of an old file puts pointer 2 at the end value; new and read openings stay as in 01"
+#[test]
+fn a_work_opening_starts_at_the_end() {
+    let mut store = store_with(4, 5, &[10]);
+    assert_eq!(store.value(0, 0, pointer::WORK), Ok(1));
+    assert_eq!((store.rename(0, 0, "a"), store.close_private(0, 0)), (Ok(()), Ok(())));
+    assert_eq!(store.open_work(0, 0, "a"), Ok(()));
+    assert_eq!(store.value(0, 0, pointer::WORK), Ok(2));
+    assert_eq!(store.write(0, 0, pointer::WORK, 99), Err(Refusal::BeyondEnd));
+    assert_eq!(store.write(0, 0, pointer::END, 20), Ok(()));
+    assert_eq!(store.next(0, 0, pointer::WORK), Ok(20));
+    assert_eq!((store.reset(0, 0), store.next(0, 0, pointer::WORK)), (Ok(()), Ok(10)));
+    assert_eq!(store.close_private(0, 0), Ok(()));
+    assert_eq!(store.open_read(0, 0, "a"), Ok(()));
+    assert_eq!(store.value(0, 0, pointer::WORK), Ok(1));
+    assert_eq!((store.next(0, 0, pointer::WORK), store.next(0, 0, pointer::WORK)), (Ok(10), Ok(20)));
+}
+
 #[test]
 fn positions_are_used_up() {
     let mut store = store_with(1, 5, &[]);

@@ -111,6 +111,7 @@ fn a_run_over_the_border_of_a_segment() {
 fn a_run_over_two_shared_segments() {
     let mut desk = desk_with(4, &[8; 66]);
     close_and_open(&mut desk, "work");
+    check(&mut desk, &[("reset 0 0", "done 0")]);
     check(&mut desk, &[("lend list1 66", "lent 66"), ("writes 0 0 2 1", "rest 0 0"), ("free 0", "done 0")]);
     check_cells(&mut desk, "store", 0, &[8; 66]);
     check_cells(&mut desk, "store", 128, &[0; 66]);
@@ -121,6 +122,7 @@ fn a_run_over_two_shared_segments() {
 fn no_room_for_the_second_copy() {
     let mut desk = desk_with(3, &[8; 66]);
     close_and_open(&mut desk, "work");
+    check(&mut desk, &[("reset 0 0", "done 0")]);
     check(&mut desk, &[("lend list1 66", "lent 66"), ("writes 0 0 2 1", "rest 2 9"), ("value 0 0 2", "done 65")]);
     check_cells(&mut desk, "store", 64, &[8, 8]);
 }

@@ -28,7 +28,8 @@ fn a_dropped_shared_segment_is_not_free() {
 #[test]
 fn the_copy_comes_before_the_write() {
     let mut desk = desk_with_a(2, 3);
-    check(&mut desk, &[("work 0 0 a", "done 0"), ("write 0 0 2 1", "done 0"), ("peek store 0", "cell 8")]);
+    check(&mut desk, &[("work 0 0 a", "done 0"), ("reset 0 0", "done 0")]);
+    check(&mut desk, &[("write 0 0 2 1", "done 0"), ("peek store 0", "cell 8")]);
     check(&mut desk, &[("peek store 64", "cell 1"), ("peek store 65", "cell 8"), ("peek store 66", "cell 8")]);
     check(&mut desk, &[("write 0 0 2 1", "done 0"), ("free 0", "done 0"), ("peek store 65", "cell 1")]);
     check(&mut desk, &[("close 0 0", "done 0"), ("free 0", "done 1"), ("peek store 0", "cell 8")]);
@@ -37,7 +38,8 @@ fn the_copy_comes_before_the_write() {
 #[test]
 fn no_room_for_the_copy() {
     let mut desk = desk_with_a(1, 3);
-    check(&mut desk, &[("work 0 0 a", "done 0"), ("write 0 0 2 1", "refused 9"), ("write 0 0 1 1", "refused 9")]);
+    check(&mut desk, &[("work 0 0 a", "done 0"), ("reset 0 0", "done 0")]);
+    check(&mut desk, &[("write 0 0 2 1", "refused 9"), ("write 0 0 1 1", "refused 9")]);
     check(&mut desk, &[("prev 0 0 1", "done 8"), ("write 0 0 1 1", "refused 9"), ("write 0 0 0 1", "done 0")]);
     check(&mut desk, &[("close 0 0", "done 0"), ("work 0 0 a", "done 0"), ("claim 0 0", "done 63")]);
     check(&mut desk, &[("rename 0 0", "done 0"), ("public 0 0", "refused 18"), ("close 0 0", "done 0")]);

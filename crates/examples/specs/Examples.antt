@@ -1,8 +1,8 @@
--- The worked examples that document 01 marks, and one of document 02's runs of elements, as one list. Assumes nothing.
+-- The worked examples that document 01 marks, and those of document 02's requests, as one list. Assumes nothing.
 use Prim.Native.Nat.{ℕ, _*_}
 use mathlib.Core.Path.{_≡_}
 use mathlib.Core.Bool.{false}
-use mathlib.Core.List.{List, [], _∷_, map}
+use mathlib.Core.List.{List, [], _∷_, map, _++_}
 use lib.ListN.{length, replicate}
 use Rattle.combine.specs.Verdict.{Said, done, refused}
 use Rattle.combine.specs.Outcome.{outcomeOf}
@@ -10,7 +10,7 @@ use Rattle.placing.specs.Sizes.{Cells, segmentCells, tablesLength}
 use Rattle.placing.specs.Placing.{segment, position, heldOf, claimOf}
 use Rattle.store.specs.Store.{putElement}
 use Rattle.names.specs.Names.{Bytes, nameOf}
-use Rattle.rules.specs.Calls.{new, work, read, rename, reset, newPointer, write, next, prev, askBegin, askEnd, Request, opens, closes, abandons, uses}
+use Rattle.rules.specs.Calls.{new, work, read, rename, reset, newPointer, write, next, prev, askBegin, askEnd, askValue, Request, opens, closes, abandons, uses}
 use Rattle.rules.specs.Calls.{Run, writes, fills, Call, fresh, starts, on, runs}
 use Rattle.rules.specs.Runs.{RunTold, noRun}
 use Rattle.image.specs.Image.{form1, imageLength}
@@ -152,5 +152,17 @@ runsTold =
     tells segmentCells makesRuns
     (noRun ∷ noRun ∷ told 0 [] ∷ noRun ∷ told 7 (44 ∷ 7 ∷ 9 ∷ 94 ∷ 95 ∷ []) ∷ noRun ∷ told 7 (4 ∷ []) ∷ told 4 [] ∷ [])
 
+-- ---- where the work pointer starts (document 02, P2)
+
+-- file "a" of 10, opened for work: pointer 2 stands at the end value, 2, and write through it is 7, so that the first element is not overwritten; 20
+-- is appended through 1, and next through 2 gives it; after a reset it gives 10; closed, and opened for reading: pointer 2 stands at the begin value
+abbrev pub startsAtTheEnd : Example
+startsAtTheEnd =
+    answers (segmentCells * 2)
+    (starts fresh ∷ makesFileA ++ asked
+    (opens (work bytesOfA) ∷ uses (askValue 2) ∷ uses (write 2 99) ∷ uses (write 1 20) ∷ uses (next 2) ∷ uses reset ∷ uses (next 2) ∷ closes false
+    ∷ opens (read bytesOfA) ∷ uses (askValue 2) ∷ uses (next 2) ∷ uses (next 2) ∷ []))
+    (replicate 6 (done 0) ++ (done 2 ∷ refused 7 ∷ done 0 ∷ done 20 ∷ done 0 ∷ done 10 ∷ done 0 ∷ done 0 ∷ done 1 ∷ done 10 ∷ done 20 ∷ []))
+
 abbrev pub worked : List Example
-worked = lift7 ∷ lift ∷ ten ∷ loses ∷ claims ∷ appends ∷ ownPointer ∷ savedFresh ∷ savedFile ∷ givenUp ∷ runsAnswered ∷ runsTold ∷ []
+worked = lift7 ∷ lift ∷ ten ∷ loses ∷ claims ∷ appends ∷ ownPointer ∷ savedFresh ∷ savedFile ∷ givenUp ∷ runsAnswered ∷ runsTold ∷ startsAtTheEnd ∷ []

@@ -9,6 +9,7 @@ use Rattle.names.specs.Names.{scratchName}
 use Rattle.placing.specs.declared.Segment.{Segment}
 use Rattle.placing.specs.declared.Position.{Position}
 use Rattle.placing.specs.Placing.{segment, position}
+use Rattle.rules.specs.Rules.{workStart}
 use Rattle.tables.specs.declared.Record.{Record}
 use Rattle.tables.specs.declared.Opening.{Opening}
 use Rattle.tables.specs.Layout.{unusedRecord, closedOpening}
@@ -21,11 +22,11 @@ unfolding newOpening scratchName
 new-made n one none g a b d i =
     record { opened = 1; place = 0; permit = 1; species = n; pointers = a i ∷ a i ∷ a i ∷ replicate 5 (b i); name = replicate 12 63; segments = replicate 32 (d i) }
 
-pub old-made : (w : Bool) (p : ℕ) (r : Record) (none : Position) (k : ℕ) → none ≡ position 0 → k ≡ bit w
-    → _≡_ {A = Opening} (record { opened = 1; place = p + 1; permit = k; species = r .species; pointers = r .begin ∷ r .end ∷ r .begin ∷ replicate 5 none; name = r .name; segments = r .segments }) (oldOpening w p r)
+pub old-made : (w : Bool) (p : ℕ) (r : Record) (none start : Position) (k : ℕ) → none ≡ position 0 → start ≡ workStart w (r .begin) (r .end) → k ≡ bit w
+    → _≡_ {A = Opening} (record { opened = 1; place = p + 1; permit = k; species = r .species; pointers = r .begin ∷ r .end ∷ start ∷ replicate 5 none; name = r .name; segments = r .segments }) (oldOpening w p r)
 unfolding oldOpening
-old-made w p r none k b e i =
-    record { opened = 1; place = add-one p i; permit = e i; species = r .species; pointers = r .begin ∷ r .end ∷ r .begin ∷ replicate 5 (b i); name = r .name; segments = r .segments }
+old-made w p r none start k b s e i =
+    record { opened = 1; place = add-one p i; permit = e i; species = r .species; pointers = r .begin ∷ r .end ∷ s i ∷ replicate 5 (b i); name = r .name; segments = r .segments }
 
 module _ (none : Position) (g : Segment) (a : none ≡ position 0) (b : g ≡ segment 0) where
   pub unused-made : _≡_ {A = Record} (record { used = 0; name = replicate 12 0; owner = 0; private = 0; species = 0; begin = none; end = none; segments = replicate 32 g }) unusedRecord

@@ -11,6 +11,7 @@ ghost use mathlib.Core.Path.{_≡_};
 ghost use mathlib.Core.Bool.{not};
 ghost use Prim.Native.Nat.{_<_};
 ghost use Rattle.placing.specs.Sizes.{places};
+ghost use Rattle.rules.specs.Rules.{workStart};
 ghost use Rattle.tables.specs.Layout.{unusedRecord, closedOpening};
 ghost use Rattle.tables.specs.Handles.{bit};
 ghost use Rattle.cells.specs.laws.Catalogue.{newOpening, oldOpening, filedRecord};
@@ -42,7 +43,17 @@ fn permit(work: bool) -> u32
     0
 }
 
-// "On opening, the work pointer stands at the begin value."
+// "From now on a work opening of an old file puts pointer 2 at the end value; new and read openings stay as in 01."
+fn work_start(work: bool, begin: Position, end: Position) -> Position
+    ensures { λ r. ⌜ r ≡ workStart work begin end ⌝ }
+{
+    if work {
+        return end;
+    }
+    begin
+}
+
+// The record at a place, opened.
 pub fn old_opening(filed: Record, place: u32, work: bool) -> Opening
     requires { ⌜ place < places ⌝ }
     ensures { λ r. ⌜ r ≡ oldOpening work place filed ⌝ }
@@ -50,6 +61,7 @@ pub fn old_opening(filed: Record, place: u32, work: bool) -> Opening
     let none = Position::of(0);
     let begin = filed.begin;
     let end = filed.end;
+    let start = work_start(work, begin, end);
     let name = filed.name;
     let segments = filed.segments;
     Opening {
@@ -57,7 +69,7 @@ pub fn old_opening(filed: Record, place: u32, work: bool) -> Opening
         place: place + 1,
         permit: permit(work),
         species: filed.species,
-        pointers: [begin, end, begin, none, none, none, none, none],
+        pointers: [begin, end, start, none, none, none, none, none],
         name,
         segments,
     }

@@ -12,7 +12,7 @@ use Rattle.names.specs.Names.{symbolsOf, nameOf, scratchName, isScratch}
 use Rattle.placing.specs.Placing.{stretchOf, offsetOf, heldOf, claimOf, slotOf}
 use Rattle.placing.specs.Sizes.{Cells, leastStore, widthOf, elementsOf}
 use Rattle.rules.specs.Calls.{fresh, load, Call, starts, asks, on, runs}
-use Rattle.rules.specs.Access.{writeRule, nextRule, prevRule, newPointerRule, renameRule}
+use Rattle.rules.specs.Access.{writeRule, nextRule, prevRule, newPointerRule, valueRule, renameRule}
 use Rattle.rules.specs.Rules.{lookUp, openNew, openedAs, openOld, headed, closeRule}
 use Rattle.rules.specs.Gates.{userGate, entryGate, startGate, imageGate}
 use Rattle.rules.specs.House.{closedDown}
@@ -63,7 +63,7 @@ module _ (c : Call) (x : Lent) (s : Sound x) (n : T (not (isLoad c))) where
 
 -- what unfolds this unfolds every definition that the answers rest on
 unfoldable pub answersKnown : List Call → Model → List Said
-unfolding refuse_when_else_ settle symbolsOf nameOf scratchName isScratch stretchOf offsetOf heldOf claimOf slotOf widthOf elementsOf writeRule nextRule prevRule newPointerRule renameRule lookUp openNew openedAs openOld headed closeRule userGate entryGate startGate imageGate free requestOnModel runOver runOnModel
+unfolding refuse_when_else_ settle symbolsOf nameOf scratchName isScratch stretchOf offsetOf heldOf claimOf slotOf widthOf elementsOf writeRule nextRule prevRule newPointerRule valueRule renameRule lookUp openNew openedAs openOld headed closeRule userGate entryGate startGate imageGate free requestOnModel runOver runOnModel
 answersKnown [] m = []
 answersKnown (c ∷ cs) m = step blind c m .answer ∷ answersKnown cs (step blind c m .after)
 

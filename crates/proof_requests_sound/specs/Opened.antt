@@ -11,7 +11,8 @@ use lib.ListN.{length, getD, set, replicate, length-set}
 use Rattle.placing.specs.Sizes.{entries, userOf, greatestEnd, greatestSpecies}
 use Rattle.rules.specs.Headings.{Heading, Handle, opening, headOf, handleOf}
 use Rattle.rules.specs.Effects.{Effect}
-use Rattle.rules.specs.Rules.{openedAs, busy, newHandle}
+use Rattle.rules.specs.Rules.{workStart, openedAs, busy, newHandle}
+use Rattle.rules.specs.laws.Opened.{start-has}
 use Rattle.rules.specs.House.{house, changed, othersOf}
 use Rattle.rules.specs.Levels.{perform}
 use Rattle.segments.specs.Free.{SegmentRecord, SegmentOpening, SegmentHouse, recordSegments, hasRoom}
@@ -28,11 +29,11 @@ use Rattle.proof_requests_sound.specs.Alone.{alone-end, alone-work, alon
 use Rattle.proof_requests_sound.specs.Listed.{once-entry}
 
 -- the pointers of a file as it is opened: no own ones
-first-pointers : (b e : ℕ) → b ≤ greatestEnd → e ≤ greatestEnd → (q : ℕ) → getD (b ∷ e ∷ b ∷ replicate 5 0) q 0 ≤ greatestEnd
-first-pointers b e hb he zero = hb
-first-pointers b e hb he (suc zero) = he
-first-pointers b e hb he (suc (suc zero)) = hb
-first-pointers b e hb he (suc (suc (suc q))) = omega (arith, replicate-at {A = ℕ} 5 q 0)
+first-pointers : (b e v : ℕ) → b ≤ greatestEnd → e ≤ greatestEnd → v ≤ greatestEnd → (q : ℕ) → getD (b ∷ e ∷ v ∷ replicate 5 0) q 0 ≤ greatestEnd
+first-pointers b e v hb he hv zero = hb
+first-pointers b e v hb he hv (suc zero) = he
+first-pointers b e v hb he hv (suc (suc zero)) = hv
+first-pointers b e v hb he hv (suc (suc (suc q))) = omega (arith, replicate-at {A = ℕ} 5 q 0)
 
 pub sound-at : (h : SegmentHouse) → SoundHouse h → (i : ℕ) (x : SegmentOpening) → getD (h .openings) i none ≡ some x → SoundOpen (h .segments) (userOf i) (h .records) x
 sound-at h s i x ix = subst (λ (y : Option SegmentOpening). SoundEntry (h .segments) (userOf i) (h .records) y) ix (s .openings i)
@@ -79,7 +80,7 @@ module _ (h : SegmentHouse) (s : SoundHouse h) (i : ℕ) (il : i < entries) wher
         };
         eight = refl;
         works = lit≤ tt;
-        points = first-pointers 1 1 (lit≤ tt) (lit≤ tt);
+        points = first-pointers 1 1 1 (lit≤ tt) (lit≤ tt) (lit≤ tt);
         twelve = twelve-of-scratch;
         title = title-of-scratch;
         placed = tt;
@@ -126,11 +127,14 @@ module _ (h : SegmentHouse) (s : SoundHouse h) (i : ℕ) (il : i < entries) wher
     unfolding openedAs
     sound-opened w m =
         let file = sound-record .file in
+        let b = r .head .begin in
+        let e = r .head .end in
+        let begin-last : b ≤ greatestEnd = omega (arith, file .order, file .last) in
         record {
           file = file;
           eight = refl;
-          works = file .first;
-          points = first-pointers (r .head .begin) (r .head .end) (omega (arith, file .order, file .last)) (file .last);
+          works = start-has (λ (v : ℕ). 1 ≤ v) w b e (file .first) (omega (arith, file .first, file .order));
+          points = first-pointers b e (workStart w b e) begin-last (file .last) (start-has (λ (v : ℕ). v ≤ greatestEnd) w b e begin-last (file .last));
           twelve = sound-record .twelve;
           title = title-of-name (r .head .name) (sound-record .name);
           placed = (r, found .there, tied w m);

@@ -43,9 +43,16 @@ openNew s =
     refuse 19 when ltb greatestSpecies s else
     done (opensNew (newHandle s))
 
--- "On opening, the work pointer stands at the begin value."; w says that the file is opened for work
+-- "From now on a work opening of an old file puts pointer 2 at the end value; new and read openings stay as in 01", where "the work pointer stands
+-- at the begin value": of a begin and an end the one where it starts
+abbrev pub workStart : {A : Type 0} → (forWork : Bool) (begin end : A) → A
+workStart true b e = e
+workStart false b e = b
+
+-- w says that the file is opened for work
 unfoldable pub openedAs : (forWork : Bool) (place : ℕ) → Heading → Handle
-openedAs w p r = record { place = some p; permit = w; name = r .name; species = r .species; pointers = r .begin ∷ r .end ∷ r .begin ∷ replicate ownPointers 0 }
+openedAs w p r =
+    record { place = some p; permit = w; name = r .name; species = r .species; pointers = r .begin ∷ r .end ∷ workStart w (r .begin) (r .end) ∷ replicate ownPointers 0 }
 
 -- "Then 14: for work, if any opening of that record exists; for read, if a work opening of it exists."
 abbrev pub busy : (forWork : Bool) (place : ℕ) → Others → Bool

@@ -7,7 +7,8 @@ use crate::species::SpeciesNumber;
 use crate::store::Store;
 
 impl Store<'_> {
-    /// Opens a new file: empty, of this species, named by the scratch name, with work permit.
+    /// Opens a new file: empty, of this species, named by the scratch name, with work permit. The work pointer stands at the
+    /// begin, which is 1.
     ///
     /// # Errors
     ///
@@ -32,7 +33,8 @@ impl Store<'_> {
     }
 
     /// Opens a permanent file by name, with work permit: the user's own file of that name first, then a public one. The work
-    /// pointer stands at the begin. What is changed becomes the file's at a close, and is nowhere after an [abandon](Store::abandon).
+    /// pointer stands at the end: to read or change what is there already, [reset](Store::reset) first. What is changed becomes
+    /// the file's at a close, and is nowhere after an [abandon](Store::abandon).
     ///
     /// # Errors
     ///
@@ -43,15 +45,19 @@ impl Store<'_> {
     /// (13) for another's public file, [`NotNow`](Refusal::NotNow) (14) while the file is open at all.
     ///
     /// ```
-    /// use dorrivand::{Refusal, Species, Store};
+    /// use dorrivand::{pointer, Refusal, Species, Store};
     ///
     /// let mut store = Store::with_segments(4)?;
     /// store.open_new(0, 0, Species::Bits32)?;
+    /// store.write(0, 0, pointer::END, 10)?;
     /// store.rename(0, 0, "notice")?;
     /// store.close_public(0, 0)?;
     ///
     /// assert_eq!(store.open_work(1, 0, "notice"), Err(Refusal::NoWorkOnAnothers));
     /// store.open_work(0, 0, "notice")?;
+    /// assert_eq!(store.write(0, 0, pointer::WORK, 11), Err(Refusal::BeyondEnd));
+    /// store.reset(0, 0)?;
+    /// store.write(0, 0, pointer::WORK, 11)?;
     /// assert_eq!(store.open_work(0, 1, "notice"), Err(Refusal::NotNow));
     /// assert_eq!(store.open_work(0, 1, "notices"), Err(Refusal::UnknownName));
     /// assert_eq!(store.open_work(0, 1, ""), Err(Refusal::EmptyName));

@@ -29,14 +29,14 @@ impl Opening {
         Opening { place: None, permit: true, name: Name::SCRATCH, file, work, own: [None; OWN_POINTERS] }
     }
 
-    /// "On opening, the work pointer stands at the begin value."
+    /// "*Work* and *read* open a permanent file by name."
     pub fn of_old(place: usize, record: &Record, permit: bool) -> Opening {
         Opening {
             place: Some(place),
             permit,
             name: record.name,
             file: record.file.clone(),
-            work: record.file.begin(),
+            work: work_pointer_of_old(&record.file, permit),
             own: [None; OWN_POINTERS],
         }
     }
@@ -58,6 +58,16 @@ impl Opening {
         } else if let Some(place) = own_place(pointer) {
             self.own[place] = Some(value);
         }
+    }
+}
+
+/// "From now on a work opening of an old file puts pointer 2 at the end value; new and read openings stay as in 01",
+/// which says: "On opening, the work pointer stands at the begin value."
+fn work_pointer_of_old(file: &File, permit: bool) -> u32 {
+    if permit {
+        file.end()
+    } else {
+        file.begin()
     }
 }
 

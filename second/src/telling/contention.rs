@@ -19,7 +19,7 @@ impl Teller {
             };
             let entry = self.closed_entry_of(user);
             let word = self.random.pick(&["read", "read", "work"]);
-            if self.say_with_name(word, user, entry, &name).starts_with("done") {
+            if self.open_old(word, user, entry, &name).starts_with("done") {
                 opened.push((user, entry));
             }
         }

@@ -46,7 +46,7 @@ impl Teller {
         if let Some((_, record)) = self.a_record() {
             let user = record.owner as u32;
             let entry = self.closed_entry_of(user);
-            self.say_with_name("work", user, entry, &text_of(&record.name));
+            self.open_old("work", user, entry, &text_of(&record.name));
             for _ in 0..self.random.below(3) {
                 let pointer = self.a_pointer();
                 self.access_through(user, entry, pointer);

@@ -41,7 +41,7 @@ impl Teller {
                 };
                 let entry = self.closed_entry_of(user);
                 let word = self.random.pick(&["read", "work"]);
-                self.say_with_name(word, user, entry, &text_of(&record.name));
+                self.open_old(word, user, entry, &text_of(&record.name));
             }
         }
     }

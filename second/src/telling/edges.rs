@@ -57,7 +57,7 @@ impl Teller {
         whole_name[..symbols.len()].copy_from_slice(&symbols);
         let name = Name::from_symbols(&whole_name).map(|name| text_of(&name)).unwrap_or_default();
         let entry = self.closed_entry_of(owner);
-        let opened = self.say_with_name("work", owner, entry, &name);
+        let opened = self.open_old("work", owner, entry, &name);
         if self.gives_up_after(&opened) {
             return;
         }
@@ -94,7 +94,7 @@ impl Teller {
         if self.random.chance(60) {
             self.say(format!("rename {} {} big", user, entry));
             self.say(format!("close {} {}", user, entry));
-            self.say(format!("work {} {} big", user, entry));
+            self.open_old("work", user, entry, b"big");
             self.append_some(user, entry, 3);
             self.work_at_the_edge(user, entry);
         }

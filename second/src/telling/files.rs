@@ -69,7 +69,7 @@ impl Teller {
         };
         let user = record.owner as u32;
         let entry = self.closed_entry_of(user);
-        let opened = self.say_with_name("work", user, entry, &text_of(&record.name));
+        let opened = self.open_old("work", user, entry, &text_of(&record.name));
         if self.gives_up_after(&opened) {
             return;
         }
@@ -129,7 +129,7 @@ impl Teller {
         }
     }
 
-    /// Reads a file from its begin on and back, by its owner or another.
+    /// Reads a file, mostly from its begin on, and back, by its owner or another.
     pub fn read_back(&mut self) {
         let record = match self.a_record() {
             Some((_, record)) => record,
@@ -141,7 +141,7 @@ impl Teller {
         };
         let entry = self.closed_entry_of(user);
         let word = self.random.pick(&["read", "read", "read", "work"]);
-        let opened = self.say_with_name(word, user, entry, &text_of(&record.name));
+        let opened = self.open_old(word, user, entry, &text_of(&record.name));
         if self.gives_up_after(&opened) {
             return;
         }

@@ -42,7 +42,7 @@ impl Teller {
                     let user = record.owner as u32;
                     let entry = self.closed_entry_of(user);
                     let word = self.random.pick(&["work", "work", "work", "read"]);
-                    self.say_with_name(word, user, entry, &text_of(&record.name));
+                    self.open_old(word, user, entry, &text_of(&record.name));
                     (user, entry)
                 }
                 None => self.a_new_file_for_runs(),

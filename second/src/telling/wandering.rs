@@ -63,7 +63,7 @@ impl Teller {
             self.say(format!("new {} {} {}", user, entry, species));
         } else {
             let name = self.a_name();
-            self.say_with_name(word, user, entry, &name);
+            self.open_old(word, user, entry, &name);
         }
     }
 

@@ -14,7 +14,8 @@ use Rattle.placing.specs.Sizes.{greatestUser, greatestEntry, entryOf, places}
 use Rattle.placing.specs.Placing.{segment, position}
 use Rattle.rules.specs.Calls.{abandons}
 use Rattle.rules.specs.Effects.{opensNew, opensOld, ended, unfiled, filed}
-use Rattle.rules.specs.Rules.{newHandle, openedAs, headed}
+use Rattle.rules.specs.Rules.{newHandle, workStart, openedAs, headed}
+use Rattle.rules.specs.laws.Opened.{start-of}
 use Rattle.segments.specs.Free.{SegmentOpening, recordSegments}
 use Rattle.tables.specs.declared.Record.{Record}
 use Rattle.tables.specs.declared.Opening.{Opening}
@@ -40,7 +41,7 @@ newOpening s =
       segments = replicate 32 (segment 0);
     }
 
--- the record at place p, opened; w says that it is for work: "On opening, the work pointer stands at the begin value."
+-- the record at place p, opened; w says that it is for work
 unfoldable pub oldOpening : Bool → ℕ → Record → Opening
 oldOpening w p r =
     record {
@@ -48,7 +49,7 @@ oldOpening w p r =
       place = suc p;
       permit = bit w;
       species = r .species;
-      pointers = r .begin ∷ r .end ∷ r .begin ∷ replicate 5 (position 0);
+      pointers = r .begin ∷ r .end ∷ workStart w (r .begin) (r .end) ∷ replicate 5 (position 0);
       name = r .name;
       segments = r .segments;
     }
@@ -114,7 +115,7 @@ module _ (s t : List ℕ) (i : ℕ) where
           place = suc p;
           permit = bit w;
           species = r .species;
-          pointers = r .begin ∷ r .end ∷ r .begin ∷ replicate 5 (position 0);
+          pointers = r .begin ∷ r .end ∷ start-of position w (positionNumber (r .begin)) (positionNumber (r .end)) j ∷ replicate 5 (position 0);
           name = r .name;
           segments = (ap (λ y. inPlaces (recordSegments y)) there ∙ ap (λ (y : Record). y .segments) d) j;
         })),
