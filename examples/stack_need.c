@@ -21,6 +21,7 @@ static uint64_t nothing(void) { return 0; }
 static uint64_t fresh(void) { return dorrivand_fresh(LENT); }
 static uint64_t open_new(void) { return dorrivand_new(LENT, USER, ENTRY, DORRIVAND_BITS_32); }
 static uint64_t append(void) { return dorrivand_write(LENT, USER, ENTRY, DORRIVAND_END, 301); }
+static uint64_t reset(void) { return dorrivand_reset(LENT, USER, ENTRY); }
 static uint64_t replace(void) { return dorrivand_write(LENT, USER, ENTRY, DORRIVAND_WORK, 417); }
 static uint64_t own_pointer(void) { return dorrivand_pointer(LENT, USER, ENTRY, DORRIVAND_BEGIN); }
 static uint64_t delete_pointer(void) { return dorrivand_delete(LENT, USER, ENTRY, FIRST_OWN); }
@@ -72,6 +73,7 @@ static struct call calls[] = {
     {"save", save},
     {"load", load},
     {"work", open_work},
+    {"reset", reset},
     {"replace", replace},
     {"next", take_first},
     {"prev", take_last},
