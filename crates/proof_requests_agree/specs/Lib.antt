@@ -3,3 +3,4 @@ pub mod Fits
 pub mod Agrees
 pub mod Requests
 pub mod Runs
+pub mod Reset

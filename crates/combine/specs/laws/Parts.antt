@@ -5,7 +5,7 @@ use mathlib.Core.Logic.{_⊎_, ⊎-elim}
 use mathlib.Core.List.{List, _++_, append-assoc}
 use native.Mathlib.Omega.{arith}
 use lib.ListN.{length, getD, take, drop, length-drop, List·getD-append}
-use lib.Seq.{paste, length-take-le, length-paste, length-paste-head, getD-append-add, getD-take, getD-drop, ext-getD, take-at, drop-at, take-all}
+use lib.Seq.{paste, length-take-le, length-paste, length-paste-head, drop-paste, getD-append-add, getD-take, getD-drop, ext-getD, take-at, drop-at, take-all}
 use Rattle.combine.specs.Lists.{part}
 
 pub length-part : (t : List ℕ) (a n : ℕ) → a + n ≤ length t → length (part t a n) ≡ n
@@ -42,6 +42,13 @@ module _ (d : List ℕ) (at : ℕ) (s : List ℕ) (n : ℕ) (hd : at + n ≤ len
       ∙ ap (take n) (drop-at (take at d) (take n s ++ drop (at + n) d) at (length-take-le at d (omega arith)))
       ∙ take-at (take n s) (drop (at + n) d) n (length-take-le n s hs)
       ∙ take-all n s (omega arith)
+
+  -- replaced again, it is as if the first time had not been
+  pub paste-over : (q : List ℕ) → paste (paste d at s n) at q n ≡ paste d at q n
+  paste-over q =
+      let before : take at (paste d at s n) ≡ take at d =
+      ap (take at) (append-assoc (take at d) (take n s) (drop (at + n) d)) ∙ take-at (take at d) (take n s ++ drop (at + n) d) at (length-take-le at d (omega arith)) in
+      λ i. before i ++ take n q ++ drop-paste d at s n (omega arith) hs i
 
   -- a part before it, or after it
   pub part-kept : (b m : ℕ) → b + m ≤ length d → (b + m ≤ at) ⊎ (at + n ≤ b) → part (paste d at s n) b m ≡ part d b m

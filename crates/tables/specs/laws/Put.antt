@@ -8,7 +8,7 @@ use lib.ListN.{length, length-map}
 use lib.Seq.{length-paste}
 use Rattle.combine.specs.laws.Numbers.{less-or-more}
 use Rattle.combine.specs.Lists.{part}
-use Rattle.combine.specs.laws.Parts.{length-part, paste-below, part-pasted, part-kept}
+use Rattle.combine.specs.laws.Parts.{length-part, paste-below, paste-over, part-pasted, part-kept}
 use Rattle.placing.specs.Placing.{segment, position}
 use Rattle.placing.specs.Sizes.{tablesLength, entries, places, mostHeld, nameSymbols, allPointers, recordLength, openingLength}
 use Rattle.tables.specs.declared.Record.{Record}
@@ -58,6 +58,10 @@ module _ (t : List ℕ) (long : length t ≡ tablesLength) where
     pub opening-put : openingAt (putOpening t i o) i ≡ o
     unfolding openingAt putOpening
     opening-put = ap openingOf (part-pasted t (openingBase i) (openingCells o) openingLength hd′ hs′ (length-opening o w)) ∙ opening-again o w
+
+    pub opening-over : (q : Opening) → putOpening (putOpening t i o) i q ≡ putOpening t i q
+    unfolding putOpening
+    opening-over q = paste-over t (openingBase i) (openingCells o) openingLength hd′ hs′ (openingCells q)
 
     pub opening-other : (j : ℕ) → j < entries → j ≢ i → openingAt (putOpening t i o) j ≡ openingAt t j
     unfolding openingAt putOpening
