@@ -7,18 +7,19 @@ use mathlib.Core.Bool.{true, false}
 use mathlib.Core.List.{List, [], _∷_, _++_}
 use lib.Dec.{T}
 use lib.ListN.{length, replicate}
-use Rattle.combine.specs.Verdict.{isDone}
+use Rattle.combine.specs.Verdict.{done, isDone}
 use Rattle.placing.specs.Sizes.{tablesLength}
-use Rattle.rules.specs.Calls.{new, work, read, rename, write, next, opens, closes, uses, fresh, count, writes, fills, Call, starts, asks, on, runs}
+use Rattle.rules.specs.Calls.{new, work, read, rename, reset, write, next, opens, closes, uses, fresh, count, writes, fills, Call, starts, asks, on, runs}
 use Rattle.cells.specs.Outcomes.{lent}
 use Rattle.model.specs.Model.{Model}
 use Rattle.model.specs.Step.{step}
 use Rattle.demands.specs.History.{afterCall, viewOn}
-use Rattle.demands.specs.Abandoning.{Story, openingCall, Abandoned, NoTrace}
+use Rattle.demands.specs.Abandoning.{Story, openingCall, whole, Abandoned, NoTrace}
 use Rattle.proof_demand3.specs.Premises.{knownAfter, quietb, abandoned-known}
 use Rattle.proof_demand3.specs.Demand3.{demand3}
 use Rattle.proof_examples.specs.Fresh.{nothingThere, fresh-leaves-sound, fresh-leaves-nothing}
-use Rattle.proof_examples.specs.Known.{blind, answersKnown}
+use Rattle.proof_examples.specs.Known.{blind, answersKnown, answers-after}
+use Rattle.examples.specs.Examples.{AnswersSo}
 
 -- ---- the story
 
@@ -38,7 +39,7 @@ storyAfter before = record {
   user = 2;
   entry = 0;
   way = work fileA;
-  between = on 2 0 (uses (write 2 99)) ∷ on 3 1 (opens (new 3)) ∷ runs 2 0 (writes 1 (7 ∷ 8 ∷ [])) ∷ on 3 1 (uses (write 1 6)) ∷ runs 3 1 (writes 1 (4 ∷ 300 ∷ []))
+  between = on 2 0 (uses reset) ∷ on 2 0 (uses (write 2 99)) ∷ on 3 1 (opens (new 3)) ∷ runs 2 0 (writes 1 (7 ∷ 8 ∷ [])) ∷ on 3 1 (uses (write 1 6)) ∷ runs 3 1 (writes 1 (4 ∷ 300 ∷ []))
       ∷ asks (count 3) ∷ on 2 0 (uses (rename (98 ∷ []))) ∷ on 3 1 (uses (rename fileC)) ∷ on 3 1 (closes true) ∷ [];
   later = on 2 1 (opens (read fileA)) ∷ on 2 1 (uses (next 2)) ∷ on 2 0 (opens (read fileC)) ∷ runs 2 0 (fills 2 (replicate 5 0)) ∷ asks (count 2) ∷ [];
 }
@@ -54,6 +55,13 @@ unfolding answersKnown
 quietly = tt
 
 -- ---- on any cells
+
+-- what it tells is done: of 16 segments four are taken before the abandonment, and two after it, when the first element is 5 as it was
+pub answered : AnswersSo 1024 (whole (storyAfter (starts fresh ∷ filled)))
+    (replicate 72 (done 0)
+    ++ (done 2 ∷ done 0 ∷ done 2 ∷ done 12 ∷ done 0 ∷ done 0 ∷ done 0 ∷ done 0 ∷ done 0 ∷ done 5 ∷ done 0 ∷ done 3 ∷ done 14 ∷ []))
+unfolding answersKnown
+answered = answers-after 1024 _ _ refl tt refl
 
 module _ (s t : List ℕ) (cells : length s ≡ 1024) (long : length t ≡ tablesLength) where
   nothing-there : viewOn (afterCall (starts fresh) (lent s t)) ≡ nothingThere 1024
