@@ -20,8 +20,8 @@ pub const BEGIN: u32 = 0;
 /// leaves the file.
 pub const END: u32 = 1;
 
-/// The work pointer, which each opening has. It stands at the begin when a file is opened new or for reading, and at the end when
-/// an old one is opened for work.
+/// The work pointer, which each opening has: at the begin when a file is new or opened for reading, at the end when an old one
+/// is opened for work.
 pub const WORK: u32 = 2;
 
 /// The own pointers, which are made and deleted.

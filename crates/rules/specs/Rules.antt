@@ -43,8 +43,8 @@ openNew s =
     refuse 19 when ltb greatestSpecies s else
     done (opensNew (newHandle s))
 
--- "From now on a work opening of an old file puts pointer 2 at the end value; new and read openings stay as in 01", where "the work pointer stands
--- at the begin value": of a begin and an end the one where it starts
+-- where the work pointer of an old file starts, of its begin and its end: "From now on a work opening of an old file puts pointer 2 at the end value;
+-- new and read openings stay as in 01", and there "the work pointer stands at the begin value"
 abbrev pub workStart : {A : Type 0} → (forWork : Bool) (begin end : A) → A
 workStart true b e = e
 workStart false b e = b

@@ -6,7 +6,7 @@ use crate::refusal::Refusal;
 use crate::store::Store;
 
 impl Store<'_> {
-    /// Puts the work pointer at the begin value, where it does not stand when an old file is opened for work.
+    /// Puts the work pointer at the begin value. When an old file is opened for work, it stands at the end.
     ///
     /// # Errors
     ///
