@@ -115,11 +115,10 @@ module _ (s t : List ℕ) (u e : ℕ) (bytes : List ℕ) where
               ∙ ap (λ c. outcomeOf (done (c .0)) (c .1)) (old-performed s t (entryOf u e) true found blank (h .0) (used (h .0)) (record-determined (length s) t found sound (h .0) (used (h .0)))),
         )
 
-        below : found < places
-        below = carried-out verdict opens-old (sym (ap (λ (x : Outcome Lent). x .answer) asked) ∙ opened) .0
-
-        after : opening-call ≡ outcomeOf (done 0) (lent s (putOpening t (entryOf u e) o))
-        after = asked ∙ carried-out verdict opens-old (sym (ap (λ (x : Outcome Lent). x .answer) asked) ∙ opened) .1
+        open-there : (found < places) × (opening-call ≡ outcomeOf (done 0) (lent s (putOpening t (entryOf u e) o)))
+        open-there =
+            let c = carried-out verdict opens-old (sym (ap (λ (x : Outcome Lent). x .answer) asked) ∙ opened) in
+            (c .0, asked ∙ c .1)
 
         -- ---- and the reset finds it there
 
@@ -128,7 +127,7 @@ module _ (s t : List ℕ) (u e : ℕ) (bytes : List ℕ) where
 
         shaped : ShapedOpening o
         unfolding oldOpening o
-        shaped = let w = record-shaped-at t long found below in record { pointers8 = refl; name12 = w .name12; segments32 = w .segments32 }
+        shaped = let w = record-shaped-at t long found (open-there .0) in record { pointers8 = refl; name12 = w .name12; segments32 = w .segments32 }
 
         opened-tables : List ℕ
         opened-tables = putOpening t (entryOf u e) o
@@ -143,7 +142,7 @@ module _ (s t : List ℕ) (u e : ℕ) (bytes : List ℕ) where
 
         still-sound : soundLent s opened-tables ≡ true
         unfolding opened-tables
-        still-sound = subst (λ (x : Outcome Lent). soundLent (x .after .store) (x .after .tables) ≡ true) after (request-sound (opens (work bytes)) s t u e sound)
+        still-sound = subst (λ (x : Outcome Lent). soundLent (x .after .store) (x .after .tables) ≡ true) (open-there .1) (request-sound (opens (work bytes)) s t u e sound)
 
         at-begin : Opening → Opening
         at-begin x = handled x (moved (handleIn x) 2 (value (handleIn x) 0))
@@ -161,7 +160,7 @@ module _ (s t : List ℕ) (u e : ℕ) (bytes : List ℕ) where
         was-closed : AsBefore
         unfolding opened-tables
         was-closed =
-            ap (λ (x : Outcome Lent). requestOut (uses reset) (x .after .store) (x .after .tables) u e) after
+            ap (λ (x : Outcome Lent). requestOut (uses reset) (x .after .store) (x .after .tables) u e) (open-there .1)
             ∙ reset-done
             ∙ ap (λ (x : List ℕ). outcomeOf (done 0) (lent s x)) (opening-over t long (entryOf u e) o (omega arith) shaped (at-begin o) ∙ ap (putOpening t (entryOf u e)) same-opening)
 
