@@ -7,6 +7,7 @@ pub mod Lists
 pub mod Any
 pub mod Same
 pub mod Parts
+pub mod Between
 pub mod Verdict
 pub mod Outcome
 pub mod Run

@@ -9,7 +9,7 @@ use Rattle.placing.specs.declared.Position.{Position}
 use Rattle.placing.specs.Placing.{segment, position}
 use Rattle.tables.specs.declared.Opening.{Opening}
 use Rattle.tables.specs.Layout.{openingBase, openingOf, openingAt}
-use Rattle.tables_rows.proofs.Parts.{part-between}
+use Rattle.combine.specs.laws.Between.{part-between}
 
 pub opening-of : (row : List ℕ) {name : List ℕ} {segments : List Segment} {pointers : List Position} → pointers ≡ map position (take 8 (drop 4 row)) → name ≡ take 12 (drop 12 row) → segments ≡ map segment (take 32 (drop 24 row))
     → _≡_ {A = Opening} (record { opened = getD row 0 0; place = getD row 1 0; permit = getD row 2 0; species = getD row 3 0; pointers = pointers; name = name; segments = segments }) (openingOf row)

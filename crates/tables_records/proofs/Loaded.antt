@@ -9,7 +9,7 @@ use Rattle.placing.specs.declared.Position.{Position}
 use Rattle.placing.specs.Placing.{segment, position}
 use Rattle.tables.specs.declared.Record.{Record}
 use Rattle.tables.specs.Layout.{recordBase, recordOf, recordAt}
-use Rattle.tables_rows.proofs.Parts.{part-between}
+use Rattle.combine.specs.laws.Between.{part-between}
 
 pub record-of : (row : List ℕ) {name : List ℕ} {segments : List Segment} {begin end : Position} → name ≡ take 12 (drop 1 row) → begin ≡ position (getD row 16 0) → end ≡ position (getD row 17 0) → segments ≡ map segment (take 32 (drop 18 row))
     → _≡_ {A = Record} (record { used = getD row 0 0; name = name; owner = getD row 13 0; private = getD row 14 0; species = getD row 15 0; begin = begin; end = end; segments = segments }) (recordOf row)

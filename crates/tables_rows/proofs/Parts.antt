@@ -4,24 +4,8 @@ use mathlib.Core.Path.{_≡_, sym, ap, _∙_}
 use mathlib.Core.List.{List, [], _∷_, _++_, append-nil, append-assoc}
 use native.Mathlib.Omega.{arith}
 use lib.ListN.{length, take, drop, replicate, length-append, length-drop, drop-of-length-le}
-use lib.Seq.{paste, length-take-le, sets, sets-eq, take-at, drop-at, take-all, drop-drop}
+use lib.Seq.{length-take-le, sets, sets-eq, take-at, drop-at}
 use borrow.Rule.Slice.PartMut.{putMid}
-use Rattle.combine.specs.Lists.{part}
-
--- what lies between two places of a list
-pub part-between : (t : List ℕ) (a n : ℕ) → take (a + n - a) (drop a t) ≡ part t a n
-unfolding part
-part-between t a n =
-    let e : a + n - a ≡ n = omega arith in
-    ap (λ (m : ℕ). take m (drop a t)) e
-
--- and is replaced
-pub put-between : (t s : List ℕ) (a n : ℕ) {ys : List ℕ} → ys ≡ s → length s ≡ n → putMid a (a + n - a) t ys ≡ paste t a s n
-put-between t s a n e l =
-    let m : a + n - a ≡ n = omega arith in
-    (λ j. take a t ++ ((e ∙ sym (take-all n s (omega arith))) j ++ drop (m j) (drop a t)))
-    ∙ ap (λ (r : List ℕ). take a t ++ (take n s ++ r)) (drop-drop n a t)
-    ∙ sym (append-assoc (take a t) (take n s) (drop (a + n) t))
 
 -- all of a row is written, cell by cell
 pub all-set : (vs l : List ℕ) → length l ≡ length vs → sets l 0 vs ≡ vs

@@ -1,7 +1,7 @@
 -- `tables_openings::put_opening` meets its contract. Assumes nothing.
 use denote.Ref.{now}
 use Rattle.tables.specs.laws.Lengths.{unmapped}
-use Rattle.tables_rows.proofs.Parts.{put-between}
+use Rattle.combine.specs.laws.Between.{put-all-between}
 use Rattle.tables.specs.Layout.{openingBase, openingCells, putOpening}
 use Rattle.tables.specs.laws.Again.{ShapedOpening, length-opening}
 use borrow.Author.Needs.{needs}
@@ -41,7 +41,7 @@ returns c =
     let o = c .before .before .before .before .before .args .opening in
     let shaped : ShapedOpening o = search (needs, unmapped) in
     let a = c .before .before .before .before .before .args in
-    put-between (now (a .tables)) (openingCells o) (openingBase (a .entry)) 56 (c .before .before .put-opening-row .ensures) (length-opening o shaped)
+    put-all-between (now (a .tables)) (openingCells o) (openingBase (a .entry)) 56 (c .before .before .put-opening-row .ensures) (length-opening o shaped)
 
 pub put-opening-spec : {M : Type 1} → statement M
 put-opening-spec =

@@ -1,7 +1,7 @@
 -- `tables_records::put_record` meets its contract. Assumes nothing.
 use denote.Ref.{now}
 use Rattle.tables.specs.laws.Lengths.{unmapped}
-use Rattle.tables_rows.proofs.Parts.{put-between}
+use Rattle.combine.specs.laws.Between.{put-all-between}
 use Rattle.tables.specs.Layout.{recordBase, recordCells, putRecord}
 use Rattle.tables.specs.laws.Again.{ShapedRecord, length-record}
 use borrow.Author.Needs.{needs}
@@ -41,7 +41,7 @@ returns c =
     let r = c .before .before .before .before .before .args .filed in
     let shaped : ShapedRecord r = search (needs, unmapped) in
     let a = c .before .before .before .before .before .args in
-    put-between (now (a .tables)) (recordCells r) (recordBase (a .place)) 50 (c .before .before .put-record-row .ensures) (length-record r shaped)
+    put-all-between (now (a .tables)) (recordCells r) (recordBase (a .place)) 50 (c .before .before .put-record-row .ensures) (length-record r shaped)
 
 pub put-record-spec : {M : Type 1} → statement M
 put-record-spec =
