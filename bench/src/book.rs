@@ -56,7 +56,8 @@ impl Book {
         } else {
             "now ns | twin ns | now/twin"
         };
-        let of_runs = "twin, singly, ns | now/that | single call ns | run/single | ns an element";
+        let of_runs =
+            "twin, singly, ns | now/that | single call ns | run/single | ns an element | copy ns | of it an element";
         for line in &self.lines {
             match line {
                 Line::Heading(columns) => print_heading(&format!("{columns} | {figures}")),
@@ -106,9 +107,17 @@ impl Figures {
     }
 
     /// What is told of a run besides: an element's time is that of all but the first, which is the single call's.
-    fn of_run(&self, elements: usize) -> [String; 5] {
-        let (now, singly, single) = (self.times[0], self.times[3], self.times[4]);
+    fn of_run(&self, elements: usize) -> [String; 7] {
+        let (now, singly, single, copy) = (self.times[0], self.times[3], self.times[4], self.times[5]);
         let element = if elements > 1 { (now - single) / (elements - 1) as f64 } else { f64::INFINITY };
-        [figure(singly, 0), ratio(now, singly), figure(single, 0), ratio(now, single), figure(element, 2)]
+        [
+            figure(singly, 0),
+            ratio(now, singly),
+            figure(single, 0),
+            ratio(now, single),
+            figure(element, 2),
+            figure(copy, 1),
+            figure(copy / elements as f64, 2),
+        ]
     }
 }

@@ -30,12 +30,12 @@ pub fn write(book: &mut Book) {
 /// Appends to a file of one element, and fills from a long one.
 fn runs(book: &mut Book, records: usize) {
     for elements in [1, 1_000, 10_000, LONGEST_RUN] {
-        let figures = measure::run(&open_file(records, 0, 1, 0), &write_run(1, elements), elements);
+        let figures = measure::run(&open_file(records, 0, 1, 0), &write_run(1, elements), elements, false);
         book.row(&format!("append | {elements} | {records}"), figures);
     }
     for elements in [1, 1_000, 10_000, LONGEST_RUN] {
         let scene = open_file(records, 0, LONGEST_RUN as u32, 0);
-        let figures = measure::run(&scene, &FillRun(HERE, 2, elements), elements);
+        let figures = measure::run(&scene, &FillRun(HERE, 2, elements), elements, false);
         book.row(&format!("fill through 2 | {elements} | {records}"), figures);
     }
 }

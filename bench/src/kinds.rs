@@ -3,6 +3,7 @@ use crate::book::Book;
 use crate::calls::Call::{self, *};
 use crate::measure;
 use crate::scenes::{full, open_file, own, records, Scene, HERE};
+use crate::twin::WHOLE_SPECIES;
 
 /// Any number of records; a call that needs one; a call that needs a free place.
 const ANY: [usize; 3] = [0, 20, 64];
@@ -22,9 +23,13 @@ fn on_full(book: &mut Book, what: &str, scene: Scene, call: Call, refusal: Optio
     book.row(&format!("{what} | 64, full store"), measure::call(&scene, &call, refusal));
 }
 
-/// A new file of 100 elements, species 0, whose work pointer stands in the middle.
+/// A new file of 100 elements, whose work pointer stands in the middle.
+fn middle_of(species: u32, number: usize) -> Scene {
+    open_file(number, species, 100, 0).after(&vec![Next(HERE, 2); 50])
+}
+
 fn middle(number: usize) -> Scene {
-    open_file(number, 0, 100, 0).after(&vec![Next(HERE, 2); 50])
+    middle_of(0, number)
 }
 
 pub fn write(book: &mut Book) {
@@ -46,6 +51,11 @@ fn access(book: &mut Book) {
     rows(book, "next through 0", ANY, middle, Next(HERE, 0));
     rows(book, "prev through 2", ANY, middle, Prev(HERE, 2));
     rows(book, "prev through 1", ANY, middle, Prev(HERE, 1));
+    let cells = |number| middle_of(WHOLE_SPECIES, number);
+    rows(book, "append, species 5", ANY, cells, Write(HERE, 1, 1));
+    rows(book, "write through 2, species 5", ANY, cells, Write(HERE, 2, 1));
+    rows(book, "next through 2, species 5", ANY, cells, Next(HERE, 2));
+    rows(book, "prev through 2, species 5", ANY, cells, Prev(HERE, 2));
 }
 
 /// An append after 64 elements of species 5, which fill a segment; and a write through an own pointer at the begin of a record's file.

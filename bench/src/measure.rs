@@ -19,7 +19,8 @@ pub fn opaque<T>(value: T) -> T {
 }
 
 /// The least nanoseconds of this build, the earlier one and the twin; infinitely many where there is nothing to measure. Of a run, which is
-/// known by how many elements it has, also those of the twin by single calls' means, and of one single call by this build.
+/// known by how many elements it has, also those of the twin by single calls' means, of one single call by this build, and of a copy of as
+/// many cells, where the elements are cells.
 pub struct Figures {
     pub times: Vec<f64>,
     pub elements: Option<usize>,
@@ -116,8 +117,22 @@ pub fn call(scene: &Scene, call: &Call, refused: Option<u32>) -> Figures {
     Figures { times: times.to_vec(), elements: None }
 }
 
-/// A run on a scene, all of whose elements must be done, and by turns with it the first of its single calls.
-pub fn run(scene: &Scene, run: &Call, elements: usize) -> Figures {
+/// Copies as many cells as the run has elements, the way that it goes: from a list into a store, or back.
+fn copied<'a>(run: &'a Call, elements: usize, mut lent: Lent) -> Turns<'a> {
+    Box::new(move |turns| {
+        let (store, list) = (&mut lent.store[..elements], &mut lent.list[..elements]);
+        for _ in 0..turns {
+            match run {
+                Call::FillRun(..) => opaque(&mut *list).copy_from_slice(opaque(&*store)),
+                _ => opaque(&mut *store).copy_from_slice(opaque(&*list)),
+            }
+        }
+    })
+}
+
+/// A run on a scene, all of whose elements must be done, by turns with the first of its single calls, and with a copy where its elements are
+/// cells.
+pub fn run(scene: &Scene, run: &Call, elements: usize, are_cells: bool) -> Figures {
     let single = run.single().expect("a run");
     let (lent, _) = now(scene, run, 0);
     let times = least([
@@ -125,7 +140,8 @@ pub fn run(scene: &Scene, run: &Call, elements: usize) -> Figures {
         earlier(scene, run, 0).map(|lent| again(proved::before, run, lent)),
         Some(again(twin::perform, run, lent.clone())),
         Some(again(twin::perform_singly, run, lent.clone())),
-        Some(again(proved::now, &single, lent)),
+        Some(again(proved::now, &single, lent.clone())),
+        are_cells.then(|| copied(run, elements, lent)),
     ]);
     Figures { times: times.to_vec(), elements: Some(elements) }
 }

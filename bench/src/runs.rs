@@ -5,10 +5,13 @@ use crate::calls::DELIVERED;
 use crate::measure;
 use crate::scenes::{open_between, Scene, HERE};
 use crate::tables::ELEMENTS;
+use crate::twin::WHOLE_SPECIES;
 
 /// Elements of the first stretch before the run, where it stays in that stretch, and of the file after it.
 const BEFORE: u32 = 10;
 const AFTER: u32 = 10;
+/// As many as are left of a stretch of species 5 then.
+const TO_THE_END: u32 = ELEMENTS[WHOLE_SPECIES as usize] - BEFORE;
 
 /// A run of so many elements.
 type Run = fn(u32) -> Call;
@@ -40,9 +43,15 @@ fn halfway(species: u32, elements: u32) -> u32 {
     in_stretch - elements.min(in_stretch) / 2
 }
 
+/// Whether the run comes down to a copy of cells: of species 5, but a write through 0, which only drops them.
+fn are_cells(species: u32, run: &Call) -> bool {
+    species == WHOLE_SPECIES && !matches!(run, WriteRun(_, 0, _))
+}
+
 fn rows(book: &mut Book, what: &str, run: &Call, species: u32, before: u32, elements: u32) {
     for records in [0, 20, 64] {
-        let figures = measure::run(&scene(records, species, run, before, elements), run, elements as usize);
+        let scene = scene(records, species, run, before, elements);
+        let figures = measure::run(&scene, run, elements as usize, are_cells(species, run));
         book.row(&format!("{what} | {species} | {elements} | {records}"), figures);
     }
 }
@@ -50,7 +59,7 @@ fn rows(book: &mut Book, what: &str, run: &Call, species: u32, before: u32, elem
 pub fn write(book: &mut Book) {
     book.run_heading("run | species | elements | records");
     for (what, run) in RUNS {
-        for (species, elements) in [(5, DELIVERED), (0, DELIVERED), (0, 1_000)] {
+        for (species, elements) in [(5, DELIVERED), (5, TO_THE_END), (0, DELIVERED), (0, 1_000)] {
             rows(book, &format!("{what}, in one stretch"), &run(elements), species, BEFORE, elements);
         }
         for (species, elements) in [(5, DELIVERED), (5, 1_000), (0, DELIVERED), (0, 1_000)] {

@@ -18,7 +18,7 @@ pub use free::{free_count, lowest_free, lowest_free_by_search};
 pub use image::IMAGE;
 pub use layout::TABLES;
 pub use perform::{perform, perform_singly};
-pub use placing::GREATEST_END;
+pub use placing::{GREATEST_END, WHOLE_SPECIES};
 pub use soundness::sound;
 
 /// "The numbers a refusal carries"

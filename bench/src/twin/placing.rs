@@ -2,6 +2,8 @@
 
 pub const GREATEST_END: u32 = 16_777_215;
 pub const GREATEST_SPECIES: u32 = 5;
+/// "species 5, where an element is a cell"
+pub const WHOLE_SPECIES: u32 = 5;
 pub const MOST_HELD: u32 = 32;
 pub const SEGMENT_CELLS: usize = 64;
 
@@ -50,6 +52,11 @@ pub fn segment_mut(store: &mut [u32], number: u32) -> &mut Segment {
     (&mut store[from..from + SEGMENT_CELLS]).try_into().unwrap()
 }
 
+/// Of species 5, the cell that is the element: no offset of a segment is past its cells, and so the compiler knows it.
+fn whole_seat(offset: u32) -> usize {
+    offset as usize % SEGMENT_CELLS
+}
+
 /// An element in its segment: the cell, how far the element stands above the cell's lowest bit, and the bits of its width.
 struct Seat {
     cell: usize,
@@ -69,12 +76,19 @@ fn seat(species: u32, offset: u32) -> Seat {
 }
 
 pub fn element(cells: &Segment, species: u32, offset: u32) -> u32 {
+    if species == WHOLE_SPECIES {
+        return cells[whole_seat(offset)];
+    }
     let seat = seat(species, offset);
     cells[seat.cell] >> seat.above & seat.mask
 }
 
 /// "A written number too wide for the species loses its top bits"
 pub fn put_element(cells: &mut Segment, species: u32, offset: u32, number: u32) {
+    if species == WHOLE_SPECIES {
+        cells[whole_seat(offset)] = number;
+        return;
+    }
     let seat = seat(species, offset);
     let cell = &mut cells[seat.cell];
     *cell = *cell & !(seat.mask << seat.above) | (number & seat.mask) << seat.above;

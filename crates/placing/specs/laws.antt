@@ -2,3 +2,4 @@
 pub mod Sized
 pub mod Held
 pub mod Tests
+pub mod Whole

@@ -9,8 +9,10 @@ ghost use Rattle.run_puts.specs.Puts.{putRow, putFirst, limitOf, Points,
 use placing::GREATEST_END;
 use placing::Position;
 use placing::Segment;
+use placing::whole::WHOLE_SPECIES;
 use run_spans::bits::bits_to;
 use run_spans::bits::put_after;
+use run_spans::cells::put_cells;
 use tables::Opening;
 
 // So many elements of a list, each of a width, one after another from some bits on.
@@ -27,8 +29,8 @@ fn put_row(store: &mut [u32], from: usize, width: u32, list: &[u32], count: usiz
     }
 }
 
-// So many elements of a list, from a position on, all of one stretch, into its segment.
-fn put_all(
+// So many elements of a list, from a position on, all of one stretch, into its segment: by bits.
+fn put_packed(
     store: &mut [u32],
     species: u32,
     segment: Segment,
@@ -43,6 +45,26 @@ fn put_all(
     let width = placing::width(species);
     let from = bits_to(segment, first, species);
     put_row(store, from, width, list, count);
+}
+
+// The same; of species 5 they are cells.
+fn put_all(
+    store: &mut [u32],
+    species: u32,
+    segment: Segment,
+    first: Position,
+    list: &[u32],
+    count: usize,
+)
+    requires { ⌜ segment .0 * segmentCells + segmentCells ≤ length (now store) ⌝ }
+    requires { ⌜ (1 ≤ first .0) × (species ≤ greatestSpecies) × (count ≤ length (now list)) × Follow species (first .0) count ⌝ }
+    ensures { λ _. ⌜ now (store .exit) ≡ putFirst (now (store .entry)) species segment (first .0) (now (list .entry)) count ⌝ }
+{
+    if species == WHOLE_SPECIES {
+        put_cells(store, segment, first, list, count);
+        return;
+    }
+    put_packed(store, species, segment, first, list, count);
 }
 
 // The first position that the pointer does not write at.

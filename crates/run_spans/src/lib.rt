@@ -6,6 +6,7 @@ ghost use Rattle.run_spans.specs.Ahead.{Ahead, Fewer};
 use placing::Position;
 
 pub mod bits; // elements by the bits before them
+pub mod cells; // elements that are cells
 
 // How many positions from `first` on lie in its stretch and before `beyond`.
 pub fn ahead(species: u32, first: Position, beyond: Position) -> u32

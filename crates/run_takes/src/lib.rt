@@ -10,8 +10,10 @@ ghost use Rattle.run_spans.specs.Bits.{Row};
 ghost use Rattle.run_takes.specs.Takes.{taken, takenRow, Points, Far, Took};
 use placing::Position;
 use placing::Segment;
+use placing::whole::WHOLE_SPECIES;
 use run_spans::bits::bits_to;
 use run_spans::bits::take_after;
+use run_spans::cells::take_cells;
 use tables::Opening;
 
 // How many elements from a pointer's value on are of one stretch, of so many that are left. "Through 0 the element leaves the
@@ -52,8 +54,8 @@ fn take_row(store: &[u32], first: usize, width: u32, list: &mut [u32], from: usi
     }
 }
 
-// So many elements from a position on, all of one stretch, from its segment into a list from a place on.
-fn take_all(
+// So many elements from a position on, all of one stretch, from its segment into a list from a place on: by bits.
+fn take_packed(
     store: &[u32],
     species: u32,
     segment: Segment,
@@ -69,6 +71,27 @@ fn take_all(
     let width = placing::width(species);
     let bits = bits_to(segment, first, species);
     take_row(store, bits, width, list, from, count);
+}
+
+// The same; of species 5 they are cells.
+fn take_all(
+    store: &[u32],
+    species: u32,
+    segment: Segment,
+    first: Position,
+    list: &mut [u32],
+    from: usize,
+    count: usize,
+)
+    requires { ⌜ segment .0 * segmentCells + segmentCells ≤ length (now store) ⌝ }
+    requires { ⌜ (1 ≤ first .0) × (species ≤ greatestSpecies) × (from + count ≤ length (now list)) × Follow species (first .0) count ⌝ }
+    ensures { λ _. ⌜ now (list .exit) ≡ paste (now (list .entry)) from (taken (now (store .entry)) species segment (first .0) count) count ⌝ }
+{
+    if species == WHOLE_SPECIES {
+        take_cells(store, segment, first, list, from, count);
+        return;
+    }
+    take_packed(store, species, segment, first, list, from, count);
 }
 
 // So many elements from a pointer's value on: the pointer moves once, and the opening is put back once.

@@ -43,7 +43,7 @@ module _ (s : ℕ) (h : s ≤ greatestSpecies) (g : Segment) (x : ℕ) (some : 1
     bits-on : offsetOf s (x + j) * widthOf s ≡ offsetOf s x * widthOf s + j * w
     bits-on = ap (λ (o : ℕ). o * widthOf s) offset-on ∙ add-mul (offsetOf s x) j (widthOf s) ∙ ap (λ (n : ℕ). offsetOf s x * widthOf s + j * n) (sym ew)
 
-    in-cell : (b + j * w) / 32 ≡ cellOf s g (position (x + j)) .0
+    pub in-cell : (b + j * w) / 32 ≡ cellOf s g (position (x + j)) .0
     unfolding cellOf bitOf
     in-cell = omega (arith, eb, bits-on)
 

@@ -1,66 +1,27 @@
 -- `store::put_element` meets its contract. Assumes nothing.
-use Prim.Native.Nat.{_<_}
-use native.Mathlib.Omega.{arith}
-use denote.Ref.{now}
 use borrow.Author.Needs.{needs}
-use lib.ListN.{length}
-use Rattle.store.specs.Store.{putElement}
-use Rattle.store.proofs.Cells.{cells}
 use Rattle.store.proofs.put_element.Statement.{statement}
 use Rattle.store.proofs.put_element.Tie as tie
 
-cell-requires : tie.Need-cell-requires
-cell-requires c κs = search needs
-
-index-requires : tie.Need-index-requires
-index-requires c κs = search needs
-
-width-requires : tie.Need-width-requires
-width-requires c κs = search needs
-
-bit-requires : tie.Need-bit-requires
-bit-requires c κs = search needs
-
-mul-put-bits : tie.Need-mul-put-bits
-mul-put-bits c =
-    let found = c .before .before in
-    let inside : found .index .result < length (now (found .before .before .before .args .store)) = search cells in
-    omega arith
-
-slice-read-put-bits : tie.Need-slice-read-put-bits
-slice-read-put-bits c = search cells
-
-put-bits-requires : tie.Need-put-bits-requires
-put-bits-requires c κs = search cells
-
-mul-store : tie.Need-mul-store
-mul-store c =
-    let found = c .before .before .before .before in
-    let inside : found .index .result < length (now (found .before .before .before .args .store)) = search cells in
-    omega arith
-
-slice-write-store : tie.Need-slice-write-store
-slice-write-store c = search cells
+put-whole-requires : tie.Need-put-whole-requires
+put-whole-requires c κs = search needs
 
 same-length : tie.Need-same-length
 same-length c = search needs
 
 returns : tie.Need-returns
-unfolding putElement
 returns c = cc
+
+put-packed-requires : tie.Need-put-packed-requires
+put-packed-requires c κs = search needs
+
+same-length-2 : tie.Need-same-length-2
+same-length-2 c = search needs
+
+returns-2 : tie.Need-returns-2
+returns-2 c = search needs
 
 pub put-element-spec : {M : Type 1} → statement M
 put-element-spec =
     tie.close
-    (tie.spec
-    cell-requires
-    index-requires
-    width-requires
-    bit-requires
-    mul-put-bits
-    slice-read-put-bits
-    put-bits-requires
-    mul-store
-    slice-write-store
-    same-length
-    returns)
+    (tie.spec put-whole-requires same-length returns put-packed-requires same-length-2 returns-2)
