@@ -2,7 +2,7 @@
 ghost use mathlib.Core.Path.{_≡_};
 ghost use Prim.Native.Nat.{_+_, _*_, _≤_, _<_};
 ghost use lib.ListN.{length};
-ghost use Rattle.placing.specs.Sizes.{segmentCells, greatestEnd, greatestSpecies, tablesLength, entries};
+ghost use Rattle.placing.specs.Sizes.{segmentCells, greatestSpecies, tablesLength, entries};
 ghost use Rattle.run_spans.specs.Ahead.{Follow};
 ghost use Rattle.run_spans.specs.Bits.{Row};
 ghost use Rattle.run_puts.specs.Puts.{putRow, putFirst, limitOf, Points, Stretched};
@@ -47,7 +47,7 @@ fn put_packed(
     put_row(store, from, width, list, count);
 }
 
-// The same; of species 5 they are cells.
+// The same, and of species 5, where elements are cells, by a copy.
 fn put_all(
     store: &mut [u32],
     species: u32,

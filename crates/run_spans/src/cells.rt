@@ -1,4 +1,4 @@
-// Elements of one stretch of species 5: each is a cell, the next one the next cell, and so many are copied.
+// Elements of one stretch of species 5: each is a cell, the next one the next cell, so that a row of them is copied.
 ghost use Prim.Native.Nat.{_+_, _≤_};
 ghost use mathlib.Core.Path.{_≡_};
 ghost use lib.ListN.{length};
@@ -9,7 +9,7 @@ ghost use Rattle.placing.specs.laws.Whole.{wholeSpecies};
 use placing::Position;
 use placing::Segment;
 
-// The first of a list, from a position on.
+// So many elements of a list, from a position on.
 pub fn put_cells(store: &mut [u32], segment: Segment, first: Position, list: &[u32], count: usize)
     requires { ⌜ (1 ≤ first .0) × (cellOf wholeSpecies segment first .0 + count ≤ length (now store)) × (count ≤ length (now list)) ⌝ }
     ensures { λ _. ⌜ now (store .exit) ≡ paste (now (store .entry)) (cellOf wholeSpecies segment first .0) (now (list .entry)) count ⌝ }
@@ -18,7 +18,7 @@ pub fn put_cells(store: &mut [u32], segment: Segment, first: Position, list: &[u
     combine::copy_cells(&list[0..count], &mut store[at..at + count]);
 }
 
-// Those from a position on, into a list from a place on.
+// So many elements from a position on, into a list from a place on.
 pub fn take_cells(
     store: &[u32],
     segment: Segment,

@@ -3,7 +3,7 @@ ghost use mathlib.Core.Path.{_≡_};
 ghost use Prim.Native.Nat.{_+_, _*_, _≤_, _<_};
 ghost use lib.ListN.{length, set};
 ghost use lib.Seq.{paste};
-ghost use Rattle.placing.specs.Sizes.{segmentCells, greatestEnd, greatestSpecies, tablesLength, entries};
+ghost use Rattle.placing.specs.Sizes.{segmentCells, greatestSpecies, tablesLength, entries};
 ghost use Rattle.tables.specs.Fields.{valueOf};
 ghost use Rattle.run_spans.specs.Ahead.{Follow};
 ghost use Rattle.run_spans.specs.Bits.{Row};
@@ -73,7 +73,7 @@ fn take_packed(
     take_row(store, bits, width, list, from, count);
 }
 
-// The same; of species 5 they are cells.
+// The same, and of species 5, where elements are cells, by a copy.
 fn take_all(
     store: &[u32],
     species: u32,

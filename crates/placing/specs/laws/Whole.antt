@@ -1,6 +1,6 @@
 -- What the placing rules come to at species 5, "where an element is a cell" (document 02, P3). Assumes nothing.
 use Prim.Native.Nat.{ℕ, _+_, _-_, _*_, _%_}
-use mathlib.Core.Path.{_≡_, refl, ap}
+use mathlib.Core.Path.{_≡_, refl}
 use native.Mathlib.Omega.{arith}
 use Rattle.placing.specs.Sizes.{segmentCells, widthOf, elementsOf}
 use Rattle.placing.specs.declared.Segment.{Segment}

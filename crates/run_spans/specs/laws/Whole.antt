@@ -8,7 +8,7 @@ use Rattle.combine.specs.laws.Numbers.{le-or-lt}
 use Rattle.placing.specs.declared.Segment.{Segment}
 use Rattle.placing.specs.declared.Position.{Position}
 use Rattle.placing.specs.Sizes.{segmentCells, greatestSpecies}
-use Rattle.placing.specs.Placing.{position, stretchOf, cellOf, bitOf}
+use Rattle.placing.specs.Placing.{position, stretchOf, cellOf}
 use Rattle.placing.specs.laws.Sized.{cell-in}
 use Rattle.placing.specs.laws.Whole.{wholeSpecies, whole-width, whole-bit}
 use Rattle.run_spans.specs.Ahead.{Follow}
