@@ -29,25 +29,7 @@ fn put_row(store: &mut [u32], from: usize, width: u32, list: &[u32], count: usiz
     }
 }
 
-// So many elements of a list, from a position on, all of one stretch, into its segment: by bits.
-fn put_packed(
-    store: &mut [u32],
-    species: u32,
-    segment: Segment,
-    first: Position,
-    list: &[u32],
-    count: usize,
-)
-    requires { ⌜ segment .0 * segmentCells + segmentCells ≤ length (now store) ⌝ }
-    requires { ⌜ (1 ≤ first .0) × (species ≤ greatestSpecies) × (count ≤ length (now list)) × Follow species (first .0) count ⌝ }
-    ensures { λ _. ⌜ now (store .exit) ≡ putFirst (now (store .entry)) species segment (first .0) (now (list .entry)) count ⌝ }
-{
-    let width = placing::width(species);
-    let from = bits_to(segment, first, species);
-    put_row(store, from, width, list, count);
-}
-
-// The same, and of species 5, where elements are cells, by a copy.
+// So many elements of a list, from a position on, all of one stretch, into its segment: of species 5 cells are copied.
 fn put_all(
     store: &mut [u32],
     species: u32,
@@ -64,7 +46,9 @@ fn put_all(
         put_cells(store, segment, first, list, count);
         return;
     }
-    put_packed(store, species, segment, first, list, count);
+    let width = placing::width(species);
+    let from = bits_to(segment, first, species);
+    put_row(store, from, width, list, count);
 }
 
 // The first position that the pointer does not write at.

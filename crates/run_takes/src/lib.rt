@@ -54,26 +54,7 @@ fn take_row(store: &[u32], first: usize, width: u32, list: &mut [u32], from: usi
     }
 }
 
-// So many elements from a position on, all of one stretch, from its segment into a list from a place on: by bits.
-fn take_packed(
-    store: &[u32],
-    species: u32,
-    segment: Segment,
-    first: Position,
-    list: &mut [u32],
-    from: usize,
-    count: usize,
-)
-    requires { ⌜ segment .0 * segmentCells + segmentCells ≤ length (now store) ⌝ }
-    requires { ⌜ (1 ≤ first .0) × (species ≤ greatestSpecies) × (from + count ≤ length (now list)) × Follow species (first .0) count ⌝ }
-    ensures { λ _. ⌜ now (list .exit) ≡ paste (now (list .entry)) from (taken (now (store .entry)) species segment (first .0) count) count ⌝ }
-{
-    let width = placing::width(species);
-    let bits = bits_to(segment, first, species);
-    take_row(store, bits, width, list, from, count);
-}
-
-// The same, and of species 5, where elements are cells, by a copy.
+// So many elements from a position on, all of one stretch, from its segment into a list from a place on: of species 5 cells are copied.
 fn take_all(
     store: &[u32],
     species: u32,
@@ -91,7 +72,9 @@ fn take_all(
         take_cells(store, segment, first, list, from, count);
         return;
     }
-    take_packed(store, species, segment, first, list, from, count);
+    let width = placing::width(species);
+    let bits = bits_to(segment, first, species);
+    take_row(store, bits, width, list, from, count);
 }
 
 // So many elements from a pointer's value on: the pointer moves once, and the opening is put back once.

@@ -39,10 +39,10 @@ module _ (st : List ℕ) (g : Segment) (x : Position) (cell : Cell) (i : ℕ) (e
   index-is : i ≡ cellOf wholeSpecies g x .0
   index-is = ei ∙ ap (λ (c : Cell). c .0) ec
 
-  -- a cell has 32 bits
-  module _ (small : (k : ℕ) → getD st k 0 < 2 ^ 32) where
-    pub whole-read : getD st i 0 ≡ elementAt st wholeSpecies g x
-    whole-read = ap (λ (k : ℕ). getD st k 0) index-is ∙ sym (whole-element st g x (small _))
+  -- k is the species, and a cell has 32 bits
+  module _ (k : ℕ) (ek : k ≡ wholeSpecies) (small : (j : ℕ) → getD st j 0 < 2 ^ 32) where
+    pub whole-read : getD st i 0 ≡ elementAt st k g x
+    whole-read = ap (λ (j : ℕ). getD st j 0) index-is ∙ sym (whole-element st g x (small _)) ∙ ap (λ (j : ℕ). elementAt st j g x) (sym ek)
 
-    pub whole-written : (n : ℕ) → n < 2 ^ 32 → set st i n ≡ putElement st wholeSpecies g x n
-    whole-written n l = ap (λ (k : ℕ). set st k n) index-is ∙ sym (whole-put st g x (small _) n l)
+    pub whole-written : (n : ℕ) → n < 2 ^ 32 → set st i n ≡ putElement st k g x n
+    whole-written n l = ap (λ (j : ℕ). set st j n) index-is ∙ sym (whole-put st g x (small _) n l) ∙ ap (λ (j : ℕ). putElement st j g x n) (sym ek)
