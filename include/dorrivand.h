@@ -44,7 +44,7 @@ extern "C" {
 /* A file's standard pointers. */
 enum dorrivand_pointer { DORRIVAND_BEGIN = 0, DORRIVAND_END = 1, DORRIVAND_WORK = 2 };
 
-/* The species, by the width of a file's elements; of 32 bits each is a cell of the store, the fastest to write and read. */
+/* The species, by the width of a file's elements; one of 32 bits is a cell of the store. */
 enum dorrivand_species {
     DORRIVAND_BITS_1 = 0,
     DORRIVAND_BITS_2 = 1,

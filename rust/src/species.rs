@@ -27,7 +27,7 @@ pub enum Species {
     Bits8 = 3,
     /// 4: elements of 16 bits.
     Bits16 = 4,
-    /// 5: elements of 32 bits, each a cell of the store: the fastest to write and read.
+    /// 5: elements of 32 bits, each a cell of the store.
     Bits32 = 5,
 }
 
