@@ -3,19 +3,20 @@ use Prim.Native.Nat.{ℕ, _≤_}
 use native.Mathlib.Omega.{arith}
 use mathlib.Core.Path.{_≡_, refl, sym, ap, _∙_, subst}
 use mathlib.Core.Logic.{_≢_}
-use mathlib.Core.Bool.{Bool, true, false, not, _&&_}
+use mathlib.Core.Bool.{true, not, _&&_}
 use mathlib.Core.Option.{Option, none}
 use mathlib.Core.List.{List, map}
-use lib.Dec.{T, ltb, eqb, nltb→le, eqb-refl, T-not}
+use lib.Dec.{T, eqb, eqb-refl, T-not}
 use lib.ListN.{getD, set}
 use lib.Seq.{set-comm, getD-set-other}
-use Rattle.combine.specs.Verdict.{Verdict, refused, done, onDone, refuse_when_else_}
+use Rattle.combine.specs.Verdict.{Verdict, refused, done, onDone}
 use Rattle.combine.specs.Outcome.{Outcome, outcomeOf, settle}
-use Rattle.placing.specs.Sizes.{entryOf}
+use Rattle.placing.specs.Sizes.{greatestEntry, entryOf}
 use Rattle.rules.specs.Calls.{Request}
 use Rattle.rules.specs.Headings.{Open, headOf, handleOf}
 use Rattle.rules.specs.Effects.{Effect, opensNew, opensOld, ended, unfiled, filed, used}
-use Rattle.rules.specs.Gates.{userGate, entryGate}
+use Rattle.rules.specs.Gates.{entryGate}
+use Rattle.rules.specs.laws.Gates.{gate-related}
 use Rattle.rules.specs.House.{Change, house, refiled, changed}
 use Rattle.rules.specs.Levels.{perform, ruled, orBlank}
 use Rattle.model.specs.Model.{Body, Files, Model, model, modelLevel}
@@ -62,29 +63,22 @@ calm-settled m g (done f) t = tt
 -- ---- the gate
 
 gate-another : (i : ℕ) (m : Model) (u e : ℕ) (v w : Verdict (ℕ × Model))
-    → (T (not (ltb 3 e)) → T (not (crowded (settle m v .answer))) → settle (emptied i m) w ≡ carried i (settle m v))
+    → (e ≤ greatestEntry → T (not (crowded (settle m v .answer))) → settle (emptied i m) w ≡ carried i (settle m v))
     → T (not (crowded (settle m (entryGate true u e v) .answer))) → settle (emptied i m) (entryGate true u e w) ≡ carried i (settle m (entryGate true u e v))
-unfolding entryGate userGate refuse_when_else_ settle
-gate-another i m u e v w h t = go (ltb 7 u) (ltb 3 e) h t
-  where
-    go : (a b : Bool) → (T (not b) → T (not (crowded (settle m v .answer))) → settle (emptied i m) w ≡ carried i (settle m v))
-        → T (not (crowded (settle m (refuse 1 when a else refuse 2 when b else v) .answer)))
-        → settle (emptied i m) (refuse 1 when a else refuse 2 when b else w) ≡ carried i (settle m (refuse 1 when a else refuse 2 when b else v))
-    go true b h t = refl
-    go false true h t = refl
-    go false false h t = h tt t
+unfolding settle
+gate-another i m u e v w h =
+    gate-related (λ v w. T (not (crowded (settle m v .answer))) → settle (emptied i m) w ≡ carried i (settle m v)) (λ n t. refl) true u e v w (λ hu he. h he)
 
 -- ---- the request
 
-pub entries-apart : (u e v d : ℕ) → e ≤ 3 → T (not (eqb u v && eqb e d)) → T (not (ltb 3 d)) → entryOf v d ≢ entryOf u e
-entries-apart u e v d le h hd q =
-    let ld : d ≤ 3 = nltb→le 3 d hd in
+pub entries-apart : (u e v d : ℕ) → e ≤ greatestEntry → T (not (eqb u v && eqb e d)) → d ≤ greatestEntry → entryOf v d ≢ entryOf u e
+entries-apart u e v d le h ld q =
     T-not (eqb u v && eqb e d) h (and-intro (eqb u v) (eqb e d) (test u v (omega arith)) (test e d (omega arith)))
   where
     test : (a b : ℕ) → a ≡ b → T (eqb a b)
     test a b p = subst (λ (c : ℕ). T (eqb a c)) p (eqb-refl a)
 
-pub request-another : (u e : ℕ) (m : Model) (v d : ℕ) (r : Request) → e ≤ 3 → T (not (eqb u v && eqb e d)) → T (not (crowded (requestOnModel r v d m .answer)))
+pub request-another : (u e : ℕ) (m : Model) (v d : ℕ) (r : Request) → e ≤ greatestEntry → T (not (eqb u v && eqb e d)) → T (not (crowded (requestOnModel r v d m .answer)))
     → requestOnModel r v d (emptied (entryOf u e) m) ≡ carried (entryOf u e) (requestOnModel r v d m)
 unfolding requestOnModel
 request-another u e m v d r le other t = gate-another i m v d _ _ inside t
@@ -98,7 +92,7 @@ request-another u e m v d r le other t = gate-another i m v d _ _ inside t
     mine : Option (Open Body)
     mine = getD (m .house .openings) j none
 
-    inside : T (not (ltb 3 d)) → T (not (crowded (settle m (judged m j r v mine) .answer)))
+    inside : d ≤ greatestEntry → T (not (crowded (settle m (judged m j r v mine) .answer)))
         → settle (emptied i m) (judged (emptied i m) j r v (getD (set (m .house .openings) i none) j none)) ≡ carried i (settle m (judged m j r v mine))
     inside hd calmly =
         let apart = entries-apart u e v d le other hd in

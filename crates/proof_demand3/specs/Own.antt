@@ -18,6 +18,7 @@ use Rattle.rules.specs.Effects.{Effect, Use, used, Others}
 use Rattle.rules.specs.Access.{acting}
 use Rattle.rules.specs.Rules.{openNew, openRecord, openOld, openWay, lookUp, rule}
 use Rattle.rules.specs.Gates.{userGate, entryGate}
+use Rattle.rules.specs.laws.Gates.{gate-related}
 use Rattle.rules.specs.House.{kept, house, refiled}
 use Rattle.rules.specs.Levels.{perform, ruled, orBlank}
 use Rattle.model.specs.Model.{Body, Files, Model, model, modelLevel}
@@ -78,13 +79,8 @@ module _ (m : Model) (i : ℕ) where
 
 -- a request that passes the gate, or is refused
 gate-leaves : (i : ℕ) (m : Model) (u e : ℕ) (v : Verdict (ℕ × Model)) → emptied i (settle m v .after) ≡ emptied i m → emptied i (settle m (entryGate true u e v) .after) ≡ emptied i m
-unfolding entryGate userGate refuse_when_else_ settle
-gate-leaves i m u e v h = go (ltb 7 u) (ltb 3 e)
-  where
-    go : (a b : Bool) → emptied i (settle m (refuse 1 when a else refuse 2 when b else v) .after) ≡ emptied i m
-    go true b = refl
-    go false true = refl
-    go false false = h
+unfolding settle
+gate-leaves i m u e v h = gate-related (λ v w. emptied i (settle m v .after) ≡ emptied i m) (λ n. refl) true u e v v (λ hu he. h)
 
 refused-leaves : (i : ℕ) (m : Model) (v : Verdict (ℕ × Model)) → T (not (isDone (settle m v .answer))) → emptied i (settle m v .after) ≡ emptied i m
 unfolding settle

@@ -2,21 +2,21 @@
 -- entry. Assumes nothing.
 use Prim.Native.Nat.{ℕ, _≤_}
 use mathlib.Core.Path.{_≡_, refl, sym, ap, _∙_, subst}
-use mathlib.Core.Bool.{Bool, true, false, not, _&&_}
+use mathlib.Core.Bool.{true, not, _&&_}
 use mathlib.Core.Option.{Option, none}
 use mathlib.Core.List.{List, [], _∷_, map}
-use lib.Dec.{T, ltb, eqb}
+use lib.Dec.{T, eqb}
 use lib.Seq.{getD-set-other}
-use Rattle.combine.specs.Verdict.{Said, refused, done, refuse_when_else_}
+use Rattle.combine.specs.Verdict.{Said, refused, done}
 use Rattle.combine.specs.Outcome.{Outcome, outcomeOf}
 use Rattle.combine.specs.Run.{Ran, ran, runOver, admitted}
 use Rattle.combine.specs.laws.Run.{behind, run-stops, run-first, run-keeps, admitted-keeps, run-map}
-use Rattle.placing.specs.Sizes.{greatestUser, greatestEntry, entryOf}
+use Rattle.placing.specs.Sizes.{greatestEntry, entryOf}
 use Rattle.rules.specs.Calls.{Request, Act, uses, write, next, Run, writes, fills}
-use Rattle.rules.specs.Headings.{Handle, handleOf}
-use Rattle.rules.specs.Gates.{userGate, entryGate}
+use Rattle.rules.specs.Headings.{Open, handleOf}
+use Rattle.rules.specs.laws.Gates.{gate-related}
 use Rattle.rules.specs.Runs.{requestsOf, admits, admission}
-use Rattle.model.specs.Model.{Files, Model}
+use Rattle.model.specs.Model.{Body, Files, Model}
 use Rattle.model.specs.Step.{requestOnModel, runOnModel}
 use Rattle.demands.specs.Abandoning.{crowded}
 use Rattle.proof_demand3.specs.Eased.{emptiedHouse, emptied}
@@ -63,13 +63,9 @@ module _ (u e v d : ℕ) (le : e ≤ greatestEntry) (other : T (not (eqb u v && 
 
   -- what is judged before the first call
   admission-another : (r : Run) (h : Files) → admission true r v d (emptiedHouse i h) ≡ admission true r v d h
-  unfolding entryGate userGate refuse_when_else_
-  admission-another r h = go (ltb greatestUser v) (ltb greatestEntry d) (λ hd. ap handleOf (getD-set-other (h .openings) i (entryOf v d) none none (entries-apart u e v d le other hd)))
-    where
-      go : (a b : Bool) {x y : Option Handle} → (T (not b) → x ≡ y) → (refuse 1 when a else refuse 2 when b else admits r x) ≡ (refuse 1 when a else refuse 2 when b else admits r y)
-      go true b q = refl
-      go false true q = refl
-      go false false q = ap (admits r) (q tt)
+  admission-another r h =
+      gate-related _≡_ (λ n. refl) true v d _ _
+      (λ hv hd. ap (λ (x : Option (Open Body)). admits r (handleOf x)) (getD-set-other (h .openings) i (entryOf v d) none none (entries-apart u e v d le other hd)))
 
   pub run-another : (r : Run) (m : Model) → Unstopped (runOnModel r v d m) → runOnModel r v d (emptied i m) ≡ carriedRun i (runOnModel r v d m)
   unfolding runOnModel

@@ -1,17 +1,17 @@
 -- Every request: what users know after it is the model's request on what they knew, with the same answer. Assumes nothing.
 use Prim.Native.Nat.{ℕ, _*_, _≤_}
 use mathlib.Core.Path.{_≡_, refl, sym, ap, ap₂, _∙_, subst}
-use mathlib.Core.Bool.{Bool, true, false}
+use mathlib.Core.Bool.{true}
 use mathlib.Core.Option.{Option, none}
 use lib.ListN.{length, getD, List·getD-map}
-use lib.Dec.{ltb}
-use Rattle.combine.specs.Verdict.{Verdict, refused, done, onDone, refuse_when_else_}
+use Rattle.combine.specs.Verdict.{Verdict, refused, done, onDone}
 use Rattle.combine.specs.Outcome.{Outcome, settle}
 use Rattle.placing.specs.Sizes.{segmentCells, entryOf}
 use Rattle.rules.specs.Calls.{Request}
 use Rattle.rules.specs.Headings.{Open}
 use Rattle.rules.specs.Effects.{Effect}
-use Rattle.rules.specs.Gates.{userGate, entryGate}
+use Rattle.rules.specs.Gates.{entryGate}
+use Rattle.rules.specs.laws.Gates.{gate-related}
 use Rattle.rules.specs.Levels.{ruled, orBlank}
 use Rattle.segments.specs.Free.{SegmentOpening}
 use Rattle.segments.specs.Deeds.{segmentLevel}
@@ -54,13 +54,8 @@ module _ (m : State) (sound : SoundHouse (m .house)) (fits : segmentCells * (m .
     -- behind the gate
     behind : (v : Verdict (ℕ × State)) (w : Verdict (ℕ × Model)) → Shows (settle m v) (settle (viewState m) w)
         → Shows (settle m (entryGate true u e v)) (settle (viewState m) (entryGate true u e w))
-    unfolding entryGate userGate refuse_when_else_ settle
-    behind v w k = go (ltb 7 u) (ltb 3 e)
-      where
-        go : (a b : Bool) → Shows (settle m (refuse 1 when a else refuse 2 when b else v)) (settle (viewState m) (refuse 1 when a else refuse 2 when b else w))
-        go true b = record { answer = refl; after = refl }
-        go false true = record { answer = refl; after = refl }
-        go false false = k
+    unfolding settle
+    behind v w k = gate-related (λ v w. Shows (settle m v) (settle (viewState m) w)) (λ n. record { answer = refl; after = refl }) true u e v w (λ hu he. k)
 
     pub request-seen : Shows (requestOnSegments r u e m) (requestOnModel r u e (viewState m))
     unfolding requestOnModel

@@ -4,7 +4,7 @@ use mathlib.Core.Path.{_≡_, refl, subst}
 use mathlib.Core.Bool.{Bool, true, false, not, _&&_, _||_, cond}
 use mathlib.Core.Option.{Option, none, some}
 use mathlib.Core.List.{List}
-use lib.Dec.{T, leb, ltb, eqb, eqb→eq, nleb→lt, nltb→le}
+use lib.Dec.{T, leb, eqb, eqb→eq, nleb→lt, nltb→le}
 use lib.ListN.{length, getD}
 use Rattle.combine.specs.Lists.{any, firstWhere}
 use Rattle.names.specs.Names.{nameOf, isScratch}
@@ -13,42 +13,13 @@ use Rattle.rules.specs.Calls.{new, work, read, Request, opens, closes, abandons
 use Rattle.rules.specs.Headings.{Heading, Handle, passes, isSome}
 use Rattle.rules.specs.Effects.{Use, Effect, opensNew, opensOld, ended, unfiled, filed, used, Others}
 use Rattle.rules.specs.Access.{acting}
+use Rattle.rules.specs.Readable.{mayRead}
+use Rattle.rules.specs.laws.Readable.{mayReadAt, look-up-read}
 use Rattle.rules.specs.Rules.{isOwn, isPublic, lookUp, openedAs, busy, openRecord, openOld, openNew, headed, without, placeFor, vanish, closeRule, rule, newHandle}
-use Rattle.combine.specs.laws.Tests.{not-not, or-first, or-second, nor-first, nor-second, and-first, and-second, nand-second}
+use Rattle.combine.specs.laws.Tests.{not-not, nor-first, nor-second, and-first, and-second, nand-second}
 use Rattle.combine.specs.laws.Replaced.{first-where, place-below}
 use Rattle.proof_requests_sound.specs.Verdicts.{Has, has, has-onDone}
 use Rattle.proof_requests_sound.specs.Uses.{Usable, usable-acting}
-
--- ---- what is looked up is public or the user's own
-
-abbrev mayRead : ℕ → Heading → Bool
-mayRead u r = not (r .private) || eqb (r .owner) u
-
-abbrev mayReadAt : ℕ → Option Heading → Bool
-mayReadAt u none = true
-mayReadAt u (some r) = mayRead u r
-
-own-read : (u : ℕ) (n : List ℕ) (x : Option Heading) → T (passes (isOwn u n) x) → T (mayReadAt u x)
-own-read u n none t = tt
-own-read u n (some r) t = or-second (not (r .private)) (eqb (r .owner) u) (and-first (eqb (r .owner) u) _ t)
-
-public-read : (u : ℕ) (n : List ℕ) (x : Option Heading) → T (passes (isPublic n) x) → T (mayReadAt u x)
-public-read u n none t = tt
-public-read u n (some r) t = or-first (not (r .private)) (eqb (r .owner) u) (and-first (not (r .private)) _ t)
-
-look-up-read : (u : ℕ) (n : List ℕ) (rs : List (Option Heading)) → lookUp u n rs < length rs → T (mayReadAt u (getD rs (lookUp u n rs) none))
-unfolding lookUp
-look-up-read u n rs = go (ltb own (length rs))
-  where
-    own : ℕ
-    own = firstWhere (passes (isOwn u n)) rs
-
-    public : ℕ
-    public = firstWhere (passes (isPublic n)) rs
-
-    go : (b : Bool) → cond b own public < length rs → T (mayReadAt u (getD rs (cond b own public) none))
-    go true l = own-read u n (getD rs own none) (first-where (passes (isOwn u n)) rs none l)
-    go false l = public-read u n (getD rs public none) (first-where (passes (isPublic n)) rs none l)
 
 -- ---- the facts, by effect: u is the user, rs the headings of the catalogue's places
 

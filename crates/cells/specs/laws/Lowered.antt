@@ -1,22 +1,21 @@
 -- A request on cells is the same request on what the cells say: the step from cells to segments. Assumes nothing.
 use Prim.Native.Nat.{ℕ, _<_}
 use mathlib.Core.Path.{_≡_, refl, ap, _∙_}
-use mathlib.Core.Bool.{Bool, true, false}
+use mathlib.Core.Bool.{true}
 use mathlib.Core.Option.{none, some}
 use mathlib.Core.List.{List}
 use native.Mathlib.Omega.{arith}
-use lib.Dec.{ltb}
-use borrow.Author.Tests.{ltb-false}
 use lib.ListN.{length, getD}
 use lib.Seq.{getD-set-same}
 use Rattle.combine.specs.laws.Lists.{length-tab}
-use Rattle.combine.specs.Verdict.{Verdict, refused, done, onDone, refuse_when_else_}
+use Rattle.combine.specs.Verdict.{Verdict, refused, done, onDone}
 use Rattle.combine.specs.Outcome.{Outcome, settle}
 use Rattle.placing.specs.Sizes.{entryOf, tablesLength}
 use Rattle.rules.specs.Calls.{Request}
 use Rattle.rules.specs.Headings.{Heading, filing, headOf, handleOf}
 use Rattle.rules.specs.Effects.{Use, Effect, filed, used}
-use Rattle.rules.specs.Gates.{userGate, entryGate}
+use Rattle.rules.specs.Gates.{entryGate}
+use Rattle.rules.specs.laws.Gates.{gate-related}
 use Rattle.rules.specs.House.{changed}
 use Rattle.rules.specs.Levels.{perform, ruled, orBlank}
 use Rattle.segments.specs.Free.{SegmentOpening, SegmentHouse}
@@ -58,16 +57,13 @@ module _ (s t : List ℕ) (long : length t ≡ tablesLength) (u e : ℕ) (x : Se
       }
 
   -- behind the gate
-  behind : (v : Verdict Effect) (a b : Bool) → ltb 7 u ≡ a → ltb 3 e ≡ b → AllFit s t x v
+  behind : (v : Verdict Effect) → AllFit s t x v
       → Lowers (settle (lent s t) (entryGate true u e (onDone (performed s t (entryOf u e) x) v)))
       (settle (stateOf (lent s t)) (entryGate true u e (onDone (performOnSegments (stateOf (lent s t)) (entryOf u e) x) v)))
-  unfolding entryGate userGate refuse_when_else_ settle
-  behind v true b p q w = rw p (record { answer = refl; after = refl })
-  behind v false true p q w = rw (p, q) (record { answer = refl; after = refl })
-  behind v false false p q w =
-      let h = ltb-false 7 u p in
-      let k = ltb-false 3 e q in
-      rw (p, q) (lowered v (omega arith) w)
+  unfolding settle
+  behind v w =
+      gate-related (λ a b. Lowers (settle (lent s t) a) (settle (stateOf (lent s t)) b)) (λ n. record { answer = refl; after = refl }) true u e _ _
+      (λ hu he. lowered v (omega arith) w)
 
 pub request-lowered : (r : Request) (s t : List ℕ) (u e : ℕ) → length t ≡ tablesLength → soundLent s t ≡ true
     → (let x = getD (houseOf t .openings) (entryOf u e) none in AllFit s t (orBlank (segmentLevel s) x) (ruled (segmentLevel s) r u (houseOf t) x))
@@ -75,7 +71,7 @@ pub request-lowered : (r : Request) (s t : List ℕ) (u e : ℕ) → length t �
 unfolding requestOut
 request-lowered r s t u e long sound w =
     let x = getD (houseOf t .openings) (entryOf u e) none in
-    rw sound (behind s t long u e (orBlank (segmentLevel s) x) (ruled (segmentLevel s) r u (houseOf t) x) (ltb 7 u) (ltb 3 e) refl refl w)
+    rw sound (behind s t long u e (orBlank (segmentLevel s) x) (ruled (segmentLevel s) r u (houseOf t) x) w)
 
 -- ---- headings and handles in the cells after an effect are what the rule said
 
