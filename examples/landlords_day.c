@@ -90,9 +90,10 @@ static void read_and_be_refused(void) {
     read_all(2, "door 1");
     open_for("work", "door 1", dorrivand_work(LENT, 2, 0, NAMED("door 1")));
 
-    part("The neighbour, landlord 5, asks for lift 7, which is not his.");
+    part("The neighbour, landlord 5, asks for lift 7, which is not his and private. To him it looks absent, as lift 9 does.");
     open_for("reading", "lift 7", dorrivand_read(LENT, 5, 0, NAMED("lift 7")));
     open_for("work", "lift 7", dorrivand_work(LENT, 5, 0, NAMED("lift 7")));
+    open_for("reading", "lift 9", dorrivand_read(LENT, 5, 0, NAMED("lift 9")));
 }
 
 /* A file that is opened for work has its work pointer at the end. */

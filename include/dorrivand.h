@@ -55,7 +55,7 @@ enum dorrivand_species {
 };
 
 /* The version that this header belongs to: it grows by 1 with each change that a caller can notice. */
-#define DORRIVAND_VERSION 3
+#define DORRIVAND_VERSION 4
 
 /* The version of the library that is linked. */
 uint32_t dorrivand_version(void);
@@ -106,13 +106,14 @@ uint64_t dorrivand_new(const uint32_t *store, size_t store_length, uint32_t *tab
 
 /* Work: opens a permanent file by name, with work permit: the user's own record of that name first, then a public one.
  * The work pointer stands at the end: to read or change what is there already, reset first.
- * Refusals: 20; 1; 2 (entry above 3); 3; 15; 12 when neither is there and another user has a private file of that name,
- * else 11; 13 for another's public file; 14 if any opening of the record exists. */
+ * Another's private file looks absent.
+ * Refusals: 20; 1; 2 (entry above 3); 3; 15; 11 when neither is there; 13 for another's public file; 14 if any opening of the
+ * record exists. */
 uint64_t dorrivand_work(const uint32_t *store, size_t store_length, uint32_t *tables, size_t tables_length,
                         uint32_t user, uint32_t entry, const uint8_t *name, size_t name_length);
 
 /* Read: opens a permanent file by name, looked up as for work, without work permit. The work pointer stands at the begin.
- * Refusals: 20; 1; 2 (entry above 3); 3; 15; 12 or 11 as for work; 14 if a work opening of the record exists. */
+ * Refusals: 20; 1; 2 (entry above 3); 3; 15; 11 as for work; 14 if a work opening of the record exists. */
 uint64_t dorrivand_read(const uint32_t *store, size_t store_length, uint32_t *tables, size_t tables_length,
                         uint32_t user, uint32_t entry, const uint8_t *name, size_t name_length);
 

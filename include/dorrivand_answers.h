@@ -18,7 +18,8 @@ static inline uint32_t dorrivand_number(uint64_t answer) { return (uint32_t)(ans
 /* The number of the refusal, 0 where the answer is done. */
 static inline uint32_t dorrivand_refused(uint64_t answer) { return dorrivand_is_done(answer) ? 0 : dorrivand_number(answer); }
 
-/* Why a call is refused. */
+/* Why a call is refused. 12, which told of another's private file, is no longer given: such a file is unknown, 11. No other
+ * refusal has its number. */
 enum dorrivand_refusal {
     DORRIVAND_NO_SUCH_USER = 1,
     DORRIVAND_ENTRY_NOT_OPEN = 2,
@@ -31,7 +32,6 @@ enum dorrivand_refusal {
     DORRIVAND_NO_ROOM = 9,
     DORRIVAND_POSITIONS_USED_UP = 10,
     DORRIVAND_UNKNOWN_NAME = 11,
-    DORRIVAND_NOT_YOURS = 12,
     DORRIVAND_NO_WORK_ON_ANOTHERS = 13,
     DORRIVAND_NOT_NOW = 14,
     DORRIVAND_EMPTY_NAME = 15,
@@ -58,7 +58,6 @@ static inline const char *dorrivand_words(uint32_t refusal) {
     case DORRIVAND_NO_ROOM: return "no room: a segment needed, none free";
     case DORRIVAND_POSITIONS_USED_UP: return "positions used up";
     case DORRIVAND_UNKNOWN_NAME: return "unknown name";
-    case DORRIVAND_NOT_YOURS: return "not yours";
     case DORRIVAND_NO_WORK_ON_ANOTHERS: return "no work on another's file";
     case DORRIVAND_NOT_NOW: return "not now";
     case DORRIVAND_EMPTY_NAME: return "old file asked for by the empty name";

@@ -1,6 +1,6 @@
 #!/bin/sh
 # Counts how often each refusal number is answered over generated histories, by single calls and by runs, and fails if
-# one of them comes less often than asked: count-refusals.sh LINES LEAST MODE SEED [SEED ...]
+# one of them comes less often than asked, or 12 at all: count-refusals.sh LINES LEAST MODE SEED [SEED ...]
 set -eu
 if [ $# -lt 4 ]; then
     echo "count-refusals.sh LINES LEAST MODE SEED [SEED ...]" >&2
@@ -23,7 +23,8 @@ for seed in "$@"; do
             printf "seed %s: done %d, bad lines %d, refused", seed, done, bad
             for (number = 1; number <= 22; number++) {
                 printf " %d:%d", number, count[number]
-                if (count[number] < least) scarce = scarce " " number
+                # "12 is never given again."
+                if (number != 12 && count[number] < least) scarce = scarce " " number
             }
             printf "\n"
             printf "seed %s: runs not stopped %d, stopped", seed, whole
@@ -33,7 +34,10 @@ for seed in "$@"; do
                 if (stopped[stop[place]] < least) scarce = scarce " run:" stop[place]
             }
             printf "\n"
-            if (scarce != "") { printf "seed %s: too seldom:%s\n", seed, scarce; exit 1 }
+            if (scarce != "") printf "seed %s: too seldom:%s\n", seed, scarce
+            given_again = count[12] + stopped[12]
+            if (given_again > 0) printf "seed %s: 12 is answered: %d\n", seed, given_again
+            exit (scarce != "" || given_again > 0)
         }' || failed=1
 done
 exit $failed

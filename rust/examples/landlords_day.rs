@@ -70,9 +70,10 @@ fn read_and_be_refused(store: &mut Store) {
     read_all(store, 2, "door 1");
     did("open for work \"door 1\"", store.open_work(2, 0, "door 1"));
 
-    part("The neighbour, landlord 5, asks for lift 7, which is not his.");
+    part("The neighbour, landlord 5, asks for lift 7, which is not his and private. To him it looks absent, as lift 9 does.");
     did("open for reading \"lift 7\"", store.open_read(5, 0, "lift 7"));
     did("open for work \"lift 7\"", store.open_work(5, 0, "lift 7"));
+    did("open for reading \"lift 9\"", store.open_read(5, 0, "lift 9"));
 }
 
 /// A file that is opened for work has its work pointer at the end.

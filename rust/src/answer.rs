@@ -72,7 +72,7 @@ mod tests {
         assert_eq!(answer(0), Ok(0));
         assert_eq!(answer(12), Ok(12));
         assert_eq!(answer(0xFFFF_FFFF), Ok(u32::MAX));
-        assert_eq!(answer(0x1_0000_000C), Err(Refusal::NotYours));
+        assert_eq!(answer(0x1_0000_000E), Err(Refusal::NotNow));
     }
 
     #[test]
@@ -86,6 +86,12 @@ mod tests {
     #[should_panic(expected = "not an answer")]
     fn a_refusal_without_a_case() {
         let _ = answer(0x1_0000_0017);
+    }
+
+    #[test]
+    #[should_panic(expected = "not an answer")]
+    fn twelve_is_no_longer_given() {
+        let _ = answer(0x1_0000_000C);
     }
 
     #[test]

@@ -20,11 +20,11 @@
 //! store.rename(2, 0, "lift 7")?;
 //! store.close_private(2, 0)?;
 //!
-//! // It can be read again, by its owner and nobody else.
+//! // It can be read again, by its owner and nobody else: to others it looks absent.
 //! store.open_read(2, 0, "lift 7")?;
 //! let faults: Vec<u32> = store.elements(2, 0, pointer::WORK).collect::<Result<_, _>>()?;
 //! assert_eq!(faults, [301, 417]);
-//! assert_eq!(store.open_read(3, 0, "lift 7"), Err(Refusal::NotYours));
+//! assert_eq!(store.open_read(3, 0, "lift 7"), Err(Refusal::UnknownName));
 //! # Ok(())
 //! # }
 //! ```

@@ -5,12 +5,15 @@ use std::fmt;
 
 /// Why a call is refused, or a run is stopped. A refused call has changed nothing.
 ///
+/// No refusal has the number 12: it told of another's private file, which is [unknown](Refusal::UnknownName) now, like a file
+/// that is not there.
+///
 /// ```
 /// use dorrivand::Refusal;
 ///
-/// assert_eq!(Refusal::NotYours.number(), 12);
-/// assert_eq!(Refusal::NotYours.to_string(), "not yours");
-/// assert_eq!(Refusal::from_number(12), Some(Refusal::NotYours));
+/// assert_eq!(Refusal::NotNow.number(), 14);
+/// assert_eq!(Refusal::NotNow.to_string(), "not now");
+/// assert_eq!(Refusal::from_number(14), Some(Refusal::NotNow));
 /// ```
 #[derive(Clone, Copy, PartialEq, Eq, PartialOrd, Ord, Hash, Debug)]
 #[non_exhaustive]
@@ -38,8 +41,6 @@ pub enum Refusal {
     PositionsUsedUp = 10,
     /// 11: unknown name.
     UnknownName = 11,
-    /// 12: not yours.
-    NotYours = 12,
     /// 13: no work on another's file.
     NoWorkOnAnothers = 13,
     /// 14: not now.
@@ -67,7 +68,7 @@ impl Refusal {
     ///
     /// ```
     /// let numbers: Vec<u32> = dorrivand::Refusal::ALL.iter().map(|refusal| refusal.number()).collect();
-    /// assert_eq!(numbers, (1..=22).collect::<Vec<u32>>());
+    /// assert_eq!(numbers, (1..=22).filter(|&number| number != 12).collect::<Vec<u32>>());
     /// ```
     pub const ALL: &'static [Refusal] = &[
         Refusal::NoSuchUser,
@@ -81,7 +82,6 @@ impl Refusal {
         Refusal::NoRoom,
         Refusal::PositionsUsedUp,
         Refusal::UnknownName,
-        Refusal::NotYours,
         Refusal::NoWorkOnAnothers,
         Refusal::NotNow,
         Refusal::EmptyName,
@@ -94,7 +94,7 @@ impl Refusal {
         Refusal::UnsoundImage,
     ];
 
-    /// The refusal's number, 1 to 22.
+    /// The refusal's number, 1 to 22 but 12.
     #[must_use]
     pub const fn number(self) -> u32 {
         self as u32
@@ -107,6 +107,7 @@ impl Refusal {
     ///
     /// assert_eq!(Refusal::from_number(9), Some(Refusal::NoRoom));
     /// assert_eq!(Refusal::from_number(0), None);
+    /// assert_eq!(Refusal::from_number(12), None);
     /// assert_eq!(Refusal::from_number(23), None);
     /// ```
     #[must_use]
@@ -127,7 +128,6 @@ impl Refusal {
             Refusal::NoRoom => "no room: a segment needed, none free",
             Refusal::PositionsUsedUp => "positions used up",
             Refusal::UnknownName => "unknown name",
-            Refusal::NotYours => "not yours",
             Refusal::NoWorkOnAnothers => "no work on another's file",
             Refusal::NotNow => "not now",
             Refusal::EmptyName => "old file asked for by the empty name",

@@ -59,7 +59,8 @@ fn users_entries_and_pointers() {
 fn opening() {
     let mut store = three_files();
     refused(&mut store, 11, |store| store.open_read(0, 0, "nobodys"));
-    refused(&mut store, 12, |store| store.open_read(0, 0, "his"));
+    refused(&mut store, 11, |store| store.open_read(0, 0, "his"));
+    refused(&mut store, 11, |store| store.open_work(0, 0, "his"));
     refused(&mut store, 13, |store| store.open_work(1, 0, "ours"));
     refused(&mut store, 15, |store| store.open_work(1, 0, "\n"));
     refused(&mut store, 19, |store| store.open_new(1, 0, 6));

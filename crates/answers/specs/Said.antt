@@ -6,7 +6,7 @@ use Rattle.answers.specs.declared.Answer.{Answer}
 use Rattle.answers.specs.declared.Answer.the-variants.{Done, Refused}
 use Rattle.combine.specs.Verdict.{Said, refused, done}
 
--- the table of refusals
+-- the table of refusals; 12 is a hole in it: "12 is never given again" (document 02, P4)
 abbrev pub refusalNumber : Refusal → ℕ
 -- user above 7
 refusalNumber R.User = 1
@@ -30,8 +30,6 @@ refusalNumber R.Room = 9
 refusalNumber R.Positions = 10
 -- unknown name
 refusalNumber R.Unknown = 11
--- not yours
-refusalNumber R.NotYours = 12
 -- no work on another's file
 refusalNumber R.NoWork = 13
 -- not now

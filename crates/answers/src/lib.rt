@@ -2,7 +2,7 @@
 ghost use mathlib.Core.Path.{_≡_};
 ghost use Rattle.answers.specs.Said.{refusalNumber};
 
-// Why a call is refused, in the order of document 01's numbers 1 to 22.
+// Why a call is refused, in the order of document 01's numbers 1 to 22; 12 is never given again (document 02, P4), and no other refusal gets it.
 pub enum Refusal {
     User,
     Entry,
@@ -15,7 +15,6 @@ pub enum Refusal {
     Room,
     Positions,
     Unknown,
-    NotYours,
     NoWork,
     NotNow,
     Empty,
@@ -51,7 +50,6 @@ pub fn number(refusal: Refusal) -> u32
         Refusal::Room => 9,
         Refusal::Positions => 10,
         Refusal::Unknown => 11,
-        Refusal::NotYours => 12,
         Refusal::NoWork => 13,
         Refusal::NotNow => 14,
         Refusal::Empty => 15,

@@ -62,7 +62,7 @@ module _ (s t : List ℕ) (u e i : ℕ) (v : Vacant s t u e i) where
       ∙ ap after (went-on 19 _ _ _ (le-ltb greatestSpecies n l) refl)
       ∙ ap (λ c. outcomeOf (done (c .0)) (c .1)) (new-performed s t i n (orBlank (segmentLevel s) none)))
 
-  -- ---- "15, 11/12/13, 14 (old)": by what was chosen
+  -- ---- an old file: by what was chosen
 
   module _ (w : Bool) (bytes : List ℕ) (n : List ℕ) (en : n ≡ nameOf bytes) (g : Choice) (eg : chosen w t g ≡ openOld w u n (headings t) (othersIn t)) where
     asked-old : requestOut (opens (wayOf w bytes)) s t u e ≡ after (chosen w t g)

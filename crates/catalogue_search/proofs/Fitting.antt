@@ -19,7 +19,7 @@ use Rattle.tables.specs.Handles.{headingOf}
 use Rattle.catalogue_laws.specs.Places.{usedWith, another}
 use Rattle.catalogue_laws.specs.Entries.{keepsOff}
 use Rattle.catalogue_search.specs.declared.Wanted.{Wanted}
-use Rattle.catalogue_search.specs.declared.Wanted.the-variants.{Own, Public, Anothers}
+use Rattle.catalogue_search.specs.declared.Wanted.the-variants.{Own, Public}
 use Rattle.catalogue_search.specs.Sought.{concerned, sought, sought-named}
 
 -- a part of the tables as the code takes it
@@ -45,14 +45,6 @@ module _ (w : Wanted) (owner : ℕ) (private : Bool) where
   pub public-wanted : w ≡ Public → not private ≡ concerned w owner private
   unfolding concerned
   public-wanted e = by-wanted Public e
-
-  pub anothers-not : (u : ℕ) → w ≡ Anothers u → owner ≡ u → false ≡ concerned w owner private
-  unfolding concerned
-  anothers-not u e o = sym (bad-left _ private (ap not (eq-eqb owner u o))) ∙ by-wanted (Anothers u) e
-
-  pub anothers-wanted : (u : ℕ) → w ≡ Anothers u → owner ≢ u → private ≡ concerned w owner private
-  unfolding concerned
-  anothers-wanted u e d = sym (ap (λ (b : Bool). not b && private) (ne-eqb owner u d)) ∙ by-wanted (Anothers u) e
 
 -- ---- a record's row
 

@@ -21,11 +21,10 @@ ghost use Rattle.catalogue_laws.specs.Places.{headings, usedWith, another};
 ghost use Rattle.catalogue_laws.specs.Entries.{keepsOff};
 ghost use Rattle.catalogue_search.specs.Sought.{concerned, sought};
 
-// Of whose files a search is: the user's own, the public ones, or the private ones of users other than this one.
+// Of whose files a search is: the user's own, or the public ones.
 pub enum Wanted {
     Own(u32),
     Public,
-    Anothers(u32),
 }
 
 fn concerns(wanted: Wanted, owner: u32, private: u32) -> bool
@@ -34,12 +33,6 @@ fn concerns(wanted: Wanted, owner: u32, private: u32) -> bool
     match wanted {
         Wanted::Own(user) => owner == user,
         Wanted::Public => private != 1,
-        Wanted::Anothers(user) => {
-            if owner == user {
-                return false;
-            }
-            private == 1
-        }
     }
 }
 

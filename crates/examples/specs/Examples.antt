@@ -1,7 +1,7 @@
 -- The worked examples that document 01 marks, and those of document 02's requests, as one list. Assumes nothing.
 use Prim.Native.Nat.{ℕ, _*_}
 use mathlib.Core.Path.{_≡_}
-use mathlib.Core.Bool.{false}
+use mathlib.Core.Bool.{true, false}
 use mathlib.Core.List.{List, [], _∷_, map, _++_}
 use lib.ListN.{length, replicate}
 use Rattle.combine.specs.Verdict.{Said, done, refused}
@@ -164,5 +164,26 @@ startsAtTheEnd =
     ∷ opens (read bytesOfA) ∷ uses (askValue 2) ∷ uses (next 2) ∷ uses (next 2) ∷ []))
     (replicate 6 (done 0) ++ (done 2 ∷ refused 7 ∷ done 0 ∷ done 20 ∷ done 0 ∷ done 10 ∷ done 0 ∷ done 0 ∷ done 1 ∷ done 10 ∷ done 20 ∷ []))
 
+-- ---- another's private file looks absent (document 02, P4)
+
+abbrev pub bytesOfB : Bytes
+bytesOfB = 98 ∷ []
+
+-- file "a" of 10 is user 2's and private: to user 3 it is 11 for read and for work, as "b" is, which nobody has; its owner finds it, opens it for work
+-- and closes it as public: now user 3 reads 10, and work is 13; user 2 makes it private again: it is 11
+abbrev pub looksAbsent : Example
+looksAbsent =
+    answers (segmentCells * 2)
+    (starts fresh ∷ makesFileA
+    ++ (on 3 0 (opens (read bytesOfA)) ∷ on 3 0 (opens (work bytesOfA)) ∷ on 3 0 (opens (read bytesOfB))
+    ∷ on 2 0 (opens (work bytesOfA)) ∷ on 3 0 (opens (read bytesOfA)) ∷ on 2 0 (closes true)
+    ∷ on 3 0 (opens (read bytesOfA)) ∷ on 3 0 (uses (next 2)) ∷ on 3 0 (closes false) ∷ on 3 0 (opens (work bytesOfA))
+    ∷ on 2 0 (opens (work bytesOfA)) ∷ on 2 0 (closes false) ∷ on 3 0 (opens (read bytesOfA)) ∷ []))
+    (replicate 5 (done 0)
+    ++ (refused 11 ∷ refused 11 ∷ refused 11
+    ∷ done 0 ∷ refused 11 ∷ done 0
+    ∷ done 0 ∷ done 10 ∷ done 0 ∷ refused 13
+    ∷ done 0 ∷ done 0 ∷ refused 11 ∷ []))
+
 abbrev pub worked : List Example
-worked = lift7 ∷ lift ∷ ten ∷ loses ∷ claims ∷ appends ∷ ownPointer ∷ savedFresh ∷ savedFile ∷ givenUp ∷ runsAnswered ∷ runsTold ∷ startsAtTheEnd ∷ []
+worked = lift7 ∷ lift ∷ ten ∷ loses ∷ claims ∷ appends ∷ ownPointer ∷ savedFresh ∷ savedFile ∷ givenUp ∷ runsAnswered ∷ runsTold ∷ startsAtTheEnd ∷ looksAbsent ∷ []

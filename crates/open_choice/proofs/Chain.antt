@@ -5,27 +5,23 @@ use mathlib.Core.Bool.{Bool, true, false, not, _&&_}
 use mathlib.Core.Option.{Option, none, some}
 use mathlib.Core.List.{List}
 use native.Mathlib.Omega.{arith}
-use lib.Dec.{eqb, leb, ltb}
+use lib.Dec.{eqb, ltb}
 use lib.ListN.{getD, List·getD-eq-default}
-use borrow.Author.Tests.{le-leb, lt-leb, lt-ltb, le-ltb, not-true, not-false}
-use Rattle.combine.specs.laws.Below.{bad-left, bad-right, both}
+use borrow.Author.Tests.{not-true, not-false}
+use Rattle.combine.specs.laws.Below.{bad-left}
 use Rattle.combine.specs.First.{firstBelow}
-use Rattle.combine.specs.Lists.{any}
 use Rattle.combine.specs.laws.Parts.{getD-part}
-use Rattle.combine.specs.Verdict.{refuse_when_else_}
 use Rattle.combine.specs.laws.Verdict.{refused-here, went-on}
-use Rattle.answers.specs.declared.Refusal.the-variants.{Empty, NotYours, Unknown, NoWork, NotNow}
+use Rattle.answers.specs.declared.Refusal.the-variants.{Empty, Unknown, NoWork, NotNow}
 use Rattle.placing.specs.Sizes.{entries, places}
 use Rattle.names.specs.Names.{isScratch}
-use Rattle.rules.specs.Headings.{Heading, passes}
-use Rattle.rules.specs.Rules.{isAnothers, lookUp, busy, openRecord, openOld}
+use Rattle.rules.specs.Headings.{Heading}
+use Rattle.rules.specs.Rules.{lookUp, busy, openRecord, openOld}
 use Rattle.tables.specs.Layout.{recordOf, recordAt, openingAt}
 use Rattle.tables.specs.Fields.{isUsed}
 use Rattle.tables.specs.Handles.{headingOf}
-use Rattle.catalogue_laws.specs.Places.{headings, another, headings-long, heading-at, any-another, looked-up-used}
+use Rattle.catalogue_laws.specs.Places.{headings, headings-long, heading-at, looked-up-used}
 use Rattle.catalogue_laws.specs.Entries.{keepsOff, othersIn, busy-first}
-use Rattle.catalogue_search.specs.declared.Wanted.the-variants.{Anothers}
-use Rattle.catalogue_search.specs.Sought.{sought}
 use Rattle.open_choice.specs.declared.Choice.the-variants.{No, At}
 use Rattle.open_choice.specs.Chosen.{chosen}
 
@@ -70,27 +66,15 @@ module _ (w : Bool) (u : ℕ) (n t : List ℕ) where
   empty-name e = sym (refused-here 15 _ _ e)
 
   module _ (named : isScratch n ≡ false) (p : ℕ) (ep : p ≡ lookUp u n (headings t)) where
-    looked : openOld w u n (headings t) (othersIn t) ≡ refuse_when_else_ 12 (leb places p && any (passes (isAnothers u n)) (headings t)) (openRecord w u p (getD (headings t) p none) (othersIn t))
+    looked : openOld w u n (headings t) (othersIn t) ≡ openRecord w u p (getD (headings t) p none) (othersIn t)
     unfolding openOld
-    looked =
-        went-on 15 _ _ _ named
-        (λ i. let q = sym ep i in refuse_when_else_ 12 (leb (headings-long t i) q && any (passes (isAnothers u n)) (headings t)) (openRecord w u q (getD (headings t) q none) (othersIn t)))
+    looked = went-on 15 _ _ _ named (ap (λ (q : ℕ). openRecord w u q (getD (headings t) q none) (othersIn t)) (sym ep))
 
     pub look-up-found : p < places → openRecord w u p (some (headingOf (recordAt t p))) (othersIn t) ≡ openOld w u n (headings t) (othersIn t)
-    look-up-found l =
-        sym (looked ∙ went-on 12 _ _ _ (bad-left _ _ (lt-leb places p l)) (ap (λ (r : Option Heading). openRecord w u p r (othersIn t)) (heading-at t p l (found-used u n t p ep l))))
+    look-up-found l = sym (looked ∙ ap (λ (r : Option Heading). openRecord w u p r (othersIn t)) (heading-at t p l (found-used u n t p ep l)))
 
-    module _ (neither : places ≤ p) (q : ℕ) (eq : q ≡ firstBelow places (another (sought (Anothers u) n) t 0)) where
-      anothers-there : any (passes (isAnothers u n)) (headings t) ≡ ltb q places
-      unfolding sought
-      anothers-there = any-another t (isAnothers u n) 0 ∙ ap (λ (k : ℕ). ltb k places) (sym eq)
-
-      pub not-yours : q < places → chosen w t (No NotYours) ≡ openOld w u n (headings t) (othersIn t)
-      unfolding chosen
-      not-yours l = sym (looked ∙ refused-here 12 _ _ (both (le-leb places p neither) (anothers-there ∙ lt-ltb q places l)))
-
-      pub unknown : places ≤ q → chosen w t (No Unknown) ≡ openOld w u n (headings t) (othersIn t)
-      unfolding chosen
-      unknown l =
-          let nothing : getD (headings t) p none ≡ none = List·getD-eq-default (headings t) none (omega (arith, headings-long t)) in
-          sym (looked ∙ went-on 12 _ _ _ (bad-right (leb places p) _ (anothers-there ∙ le-ltb q places l)) (ap (λ (r : Option Heading). openRecord w u p r (othersIn t)) nothing))
+    pub unknown : places ≤ p → chosen w t (No Unknown) ≡ openOld w u n (headings t) (othersIn t)
+    unfolding chosen
+    unknown l =
+        let nothing : getD (headings t) p none ≡ none = List·getD-eq-default (headings t) none (omega (arith, headings-long t)) in
+        sym (looked ∙ ap (λ (r : Option Heading). openRecord w u p r (othersIn t)) nothing)

@@ -1,4 +1,4 @@
-// Which record an opening by name is of, or why it is refused: "15, 11/12/13, 14 (old)".
+// Which record an opening by name is of, or why it is refused: "15, 11/12/13, 14 (old)", of which document 02's P4 took the 12.
 ghost use mathlib.Core.Path.{_≡_};
 ghost use mathlib.Core.Bool.{true, not, _&&_};
 ghost use mathlib.Core.Option.{some};
@@ -14,7 +14,6 @@ ghost use Rattle.catalogue_laws.specs.Places.{headings};
 ghost use Rattle.catalogue_laws.specs.Entries.{othersIn};
 ghost use Rattle.open_choice.specs.Chosen.{chosen, There};
 use answers::Refusal;
-use catalogue_search::Wanted;
 use placing::NAME_SYMBOLS;
 use placing::PLACES;
 use placing::RECORD_LENGTH;
@@ -56,7 +55,7 @@ fn found(tables: &[u32], user: u32, place: usize, work: bool) -> Choice
     Choice::At(place)
 }
 
-// "If neither is there: 12 when another user has a private file of that name, else 11."
+// What look-up does not find is unknown: "A file that is another's and private must look absent: 11 in place of 12, for read and for work".
 pub fn choose(tables: &[u32], user: u32, name: [u32; NAME_SYMBOLS], work: bool) -> Choice
     requires { ⌜ length (now tables) ≡ tablesLength ⌝ }
     ensures verdict { λ r. ⌜ chosen work (now (tables .entry)) r ≡ openOld work user name (headings (now (tables .entry))) (othersIn (now (tables .entry))) ⌝ }
@@ -68,10 +67,6 @@ pub fn choose(tables: &[u32], user: u32, name: [u32; NAME_SYMBOLS], work: bool) 
     let place = catalogue_search::look_up(tables, user, &name);
     if place < PLACES {
         return found(tables, user, place, work);
-    }
-    let anothers = catalogue_search::find(tables, Wanted::Anothers(user), &name, 0);
-    if anothers < PLACES {
-        return Choice::No(Refusal::NotYours);
     }
     Choice::No(Refusal::Unknown)
 }

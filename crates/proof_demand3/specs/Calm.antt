@@ -83,7 +83,7 @@ record-eased w u p (some r) o q e t = keep 13 _ _ _ (ease 14 _ _ _ tt (busy-ease
 
 old-eased : (w : Bool) (u : ℕ) (n : List ℕ) (rs : List (Option Heading)) (o q : Others) → Eased o q → T (calm (openOld w u n rs o)) → openOld w u n rs q ≡ openOld w u n rs o
 unfolding openOld
-old-eased w u n rs o q e = keep 15 _ _ _ (keep 12 _ _ _ (record-eased w u (lookUp u n rs) (getD rs (lookUp u n rs) none) o q e))
+old-eased w u n rs o q e = keep 15 _ _ _ (record-eased w u (lookUp u n rs) (getD rs (lookUp u n rs) none) o q e)
 
 way-eased : (w : Way) (u : ℕ) (rs : List (Option Heading)) (o q : Others) → Eased o q → T (calm (openWay w u rs o)) → openWay w u rs q ≡ openWay w u rs o
 way-eased (new s) u rs o q e t = refl

@@ -44,7 +44,7 @@ record-leaves w u p (some r) o = has Leaves 13 _ _ (λ s. has Leaves 14 _ _ (λ 
 
 old-leaves : (w : Bool) (u : ℕ) (n : List ℕ) (rs : List (Option Heading)) (o : Others) → Has Leaves (openOld w u n rs o)
 unfolding openOld
-old-leaves w u n rs o = has Leaves 15 _ _ (λ s. has Leaves 12 _ _ (λ t. record-leaves w u (lookUp u n rs) (getD rs (lookUp u n rs) none) o))
+old-leaves w u n rs o = has Leaves 15 _ _ (λ s. record-leaves w u (lookUp u n rs) (getD rs (lookUp u n rs) none) o)
 
 way-leaves : (w : Way) (u : ℕ) (rs : List (Option Heading)) (o : Others) → Has Leaves (openWay w u rs o)
 way-leaves (new s) u rs o = new-leaves s

@@ -14,7 +14,7 @@ use Rattle.store.specs.Store.{putElement}
 use Rattle.rules.specs.Headings.{filing}
 use Rattle.rules.specs.House.{house, freshHouse}
 use Rattle.segments.specs.Free.{SegmentRecord, SegmentHouse}
-use Rattle.examples.specs.Examples.{Holds, AllHold, lift7, lift, ten, loses, claims, appends, ownPointer, savedFresh, bytesOfA, makesFileA, imageWithA, savedFile, givenUp, runsAnswered, runsTold, startsAtTheEnd, worked}
+use Rattle.examples.specs.Examples.{Holds, AllHold, lift7, lift, ten, loses, claims, appends, ownPointer, savedFresh, bytesOfA, makesFileA, imageWithA, savedFile, givenUp, runsAnswered, runsTold, startsAtTheEnd, looksAbsent, worked}
 use Rattle.proof_examples.specs.OnSegments.{stateAfter}
 use Rattle.proof_examples.specs.Known.{answersKnown, answers-after, runsKnown, runs-after}
 use Rattle.proof_examples.specs.Saved.{imageBy, Leads, saves-after}
@@ -58,6 +58,10 @@ given-up-holds = answers-after (segmentCells * 2) _ _ refl tt refl
 starts-at-the-end-holds : Holds startsAtTheEnd
 unfolding answersKnown
 starts-at-the-end-holds = answers-after (segmentCells * 2) _ _ refl tt refl
+
+looks-absent-holds : Holds looksAbsent
+unfolding answersKnown
+looks-absent-holds = answers-after (segmentCells * 2) _ _ refl tt refl
 
 -- ---- runs
 
@@ -103,4 +107,4 @@ saved-file-holds = saves-after (segmentCells * 128) makesFileA houseWithA imageW
 
 pub worked-hold : AllHold worked
 worked-hold =
-    (lift7-holds, (lift-holds, (ten-holds, (loses-holds, (claims-holds, (appends-holds, (own-pointer-holds, (saved-fresh-holds, (saved-file-holds, (given-up-holds, (runs-answered-holds, (runs-told-holds, (starts-at-the-end-holds, tt)))))))))))))
+    (lift7-holds, (lift-holds, (ten-holds, (loses-holds, (claims-holds, (appends-holds, (own-pointer-holds, (saved-fresh-holds, (saved-file-holds, (given-up-holds, (runs-answered-holds, (runs-told-holds, (starts-at-the-end-holds, (looks-absent-holds, tt))))))))))))))

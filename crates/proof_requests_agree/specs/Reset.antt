@@ -99,7 +99,7 @@ module _ (s t : List ℕ) (u e : ℕ) (bytes : List ℕ) where
 
         opens-old : Has Opens verdict
         unfolding openOld verdict
-        opens-old = has _ _ _ _ (λ h15. has _ _ _ _ (λ h12. opens-record (getD (headings t) found none) refl))
+        opens-old = has _ _ _ _ (λ h15. opens-record (getD (headings t) found none) refl)
 
         o : Opening
         o = oldOpening true found (recordAt t found)

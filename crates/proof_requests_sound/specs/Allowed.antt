@@ -83,7 +83,7 @@ module _ (u : ℕ) (rs : List (Option Heading)) (takes : ℕ → Bool) (o : Othe
 
   allowed-old : (w : Bool) (n : List ℕ) → Has (Allowed u rs takes o none) (openOld w u n rs o)
   unfolding openOld
-  allowed-old w n = has _ _ _ _ (λ h15. has _ _ _ _ (λ h12. allowed-record w (lookUp u n rs) (getD rs (lookUp u n rs) none) refl (look-up-read u n rs)))
+  allowed-old w n = has _ _ _ _ (λ h15. allowed-record w (lookUp u n rs) (getD rs (lookUp u n rs) none) refl (look-up-read u n rs))
 
   allowed-new : (s : ℕ) → Has (Allowed u rs takes o none) (openNew s)
   unfolding openNew

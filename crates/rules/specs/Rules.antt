@@ -32,7 +32,7 @@ lookUp u n rs =
     let own = firstWhere (passes (isOwn u n)) rs in
     cond (ltb own (length rs)) own (firstWhere (passes (isPublic n)) rs)
 
--- ---- opening: "Order: 20, 1, 2, then for an opening 3, then 19 (new) or 15, 11/12/13, 14 (old)"
+-- ---- opening: "Order: 20, 1, 2, then for an opening 3, then 19 (new) or 15, 11/12/13, 14 (old)", of which document 02's P4 took the 12
 
 -- "New makes an empty scratch file with work permit."; "It starts with b = e = 1."
 abbrev pub newHandle : (species : ℕ) → Handle
@@ -59,7 +59,8 @@ abbrev pub busy : (forWork : Bool) (place : ℕ) → Others → Bool
 busy true p o = o .opened p
 busy false p o = o .worked p
 
--- at the place p that look-up found, with no record where it found none: "Work on another's public file: 13."
+-- at the place p that look-up found, with no record where it found none: "A file that is another's and private must look absent: 11 in place of
+-- 12, for read and for work"; "Work on another's public file: 13."
 abbrev pub openRecord : (forWork : Bool) (user place : ℕ) → Option Heading → Others → Verdict Effect
 openRecord w u p none o = refused 11
 openRecord w u p (some r) o =
@@ -67,16 +68,10 @@ openRecord w u p (some r) o =
     refuse 14 when busy w p o else
     done (opensOld p (openedAs w p r))
 
--- "If neither is there: 12 when another user has a private file of that name, else 11."
-abbrev pub isAnothers : (user : ℕ) (name : Symbols) → Heading → Bool
-isAnothers u n r = not (eqb (r .owner) u) && r .private && hasName n r
-
 unfoldable pub openOld : (forWork : Bool) (user : ℕ) (name : Symbols) (catalogue : List (Option Heading)) → Others → Verdict Effect
 openOld w u n rs o =
     let p = lookUp u n rs in
-    let neither = leb (length rs) p in
     refuse 15 when isScratch n else
-    refuse 12 when neither && any (passes (isAnothers u n)) rs else
     openRecord w u p (getD rs p none) o
 
 -- "Work and read open a permanent file by name."

@@ -2,3 +2,4 @@
 pub mod Gates
 pub mod Opened
 pub mod Readable
+pub mod Refusals

@@ -7,32 +7,32 @@ const OUTCOMES: usize = 23;
 
 /// The refusals of each call, in the order of `CALLS` and, within a call, of the documents.
 pub const REFUSALS: [&[u32]; CALLS.len()] = [
-    &[20],                              // fresh
-    &[20, 22],                          // save
-    &[20, 22],                          // load
-    &[20, 1],                           // free
-    &[20, 1, 2, 3, 19],                 // new
-    &[20, 1, 2, 3, 15, 11, 12, 13, 14], // work
-    &[20, 1, 2, 3, 15, 11, 12, 14],     // read
-    &[20, 1, 2, 5],                     // rename
-    &[20, 1, 2, 16, 17],                // close
-    &[20, 1, 2, 18, 16, 17],            // public
-    &[20, 1, 2],                        // abandon
-    &[20, 1, 2],                        // reset
-    &[20, 1, 2, 4, 21],                 // pointer
-    &[20, 1, 2, 4],                     // delete
-    &[20, 1, 2, 4, 5, 6, 7, 10, 8, 9],  // write
-    &[20, 1, 2, 4, 5, 6, 7],            // next
-    &[20, 1, 2, 4, 5, 6, 7],            // prev
-    &[20, 1, 2, 4, 5, 6, 7, 10, 8, 9],  // writes
-    &[20, 1, 2, 4, 5, 6, 7],            // nexts
-    &[20, 1, 2],                        // species
-    &[20, 1, 2],                        // claim
-    &[20, 1, 2],                        // permit
-    &[20, 1, 2],                        // symbol
-    &[20, 1, 2],                        // begin
-    &[20, 1, 2],                        // end
-    &[20, 1, 2, 4],                     // value
+    &[20],                             // fresh
+    &[20, 22],                         // save
+    &[20, 22],                         // load
+    &[20, 1],                          // free
+    &[20, 1, 2, 3, 19],                // new
+    &[20, 1, 2, 3, 15, 11, 13, 14],    // work
+    &[20, 1, 2, 3, 15, 11, 14],        // read
+    &[20, 1, 2, 5],                    // rename
+    &[20, 1, 2, 16, 17],               // close
+    &[20, 1, 2, 18, 16, 17],           // public
+    &[20, 1, 2],                       // abandon
+    &[20, 1, 2],                       // reset
+    &[20, 1, 2, 4, 21],                // pointer
+    &[20, 1, 2, 4],                    // delete
+    &[20, 1, 2, 4, 5, 6, 7, 10, 8, 9], // write
+    &[20, 1, 2, 4, 5, 6, 7],           // next
+    &[20, 1, 2, 4, 5, 6, 7],           // prev
+    &[20, 1, 2, 4, 5, 6, 7, 10, 8, 9], // writes
+    &[20, 1, 2, 4, 5, 6, 7],           // nexts
+    &[20, 1, 2],                       // species
+    &[20, 1, 2],                       // claim
+    &[20, 1, 2],                       // permit
+    &[20, 1, 2],                       // symbol
+    &[20, 1, 2],                       // begin
+    &[20, 1, 2],                       // end
+    &[20, 1, 2, 4],                    // value
 ];
 
 /// "a list of length 0 still gets refusals 20, 1, 2, 4, 5 where they apply".

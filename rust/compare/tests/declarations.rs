@@ -115,7 +115,7 @@ fn the_three_declarations_agree() {
     }
 }
 
-/// The header's name of a refusal or a species, from the crate's: NotYours, DORRIVAND_NOT_YOURS; Bits16, DORRIVAND_BITS_16.
+/// The header's name of a refusal or a species, from the crate's: NotNow, DORRIVAND_NOT_NOW; Bits16, DORRIVAND_BITS_16.
 fn name_in_c(name: &str) -> String {
     let mut in_c = String::from("DORRIVAND");
     let mut after_digit = false;

@@ -45,7 +45,7 @@ impl Store<'_> {
     /// store.open_new(0, 0, Species::Bits32)?;
     /// store.rename(0, 0, "a")?;
     /// store.close_private(0, 0)?;
-    /// assert_eq!(store.open_read(1, 0, "a"), Err(Refusal::NotYours));
+    /// assert_eq!(store.open_read(1, 0, "a"), Err(Refusal::UnknownName));
     ///
     /// // Renamed to the scratch name and closed: deleted.
     /// store.open_work(0, 0, "a")?;

@@ -40,9 +40,9 @@ impl Store<'_> {
     ///
     /// [`UnsoundTables`](Refusal::UnsoundTables) (20), [`NoSuchUser`](Refusal::NoSuchUser) (1),
     /// [`EntryNotOpen`](Refusal::EntryNotOpen) (2) for an entry above 3, [`EntryOpen`](Refusal::EntryOpen) (3),
-    /// [`EmptyName`](Refusal::EmptyName) (15), [`UnknownName`](Refusal::UnknownName) (11) or, where another user has a
-    /// private file of that name, [`NotYours`](Refusal::NotYours) (12), [`NoWorkOnAnothers`](Refusal::NoWorkOnAnothers)
-    /// (13) for another's public file, [`NotNow`](Refusal::NotNow) (14) while the file is open at all.
+    /// [`EmptyName`](Refusal::EmptyName) (15), [`UnknownName`](Refusal::UnknownName) (11), for another's private file too,
+    /// [`NoWorkOnAnothers`](Refusal::NoWorkOnAnothers) (13) for another's public file, [`NotNow`](Refusal::NotNow) (14) while
+    /// the file is open at all.
     ///
     /// ```
     /// use dorrivand::{pointer, Refusal, Species, Store};
@@ -74,9 +74,8 @@ impl Store<'_> {
     ///
     /// [`UnsoundTables`](Refusal::UnsoundTables) (20), [`NoSuchUser`](Refusal::NoSuchUser) (1),
     /// [`EntryNotOpen`](Refusal::EntryNotOpen) (2) for an entry above 3, [`EntryOpen`](Refusal::EntryOpen) (3),
-    /// [`EmptyName`](Refusal::EmptyName) (15), [`UnknownName`](Refusal::UnknownName) (11) or, where another user has a
-    /// private file of that name, [`NotYours`](Refusal::NotYours) (12), [`NotNow`](Refusal::NotNow) (14) while the file is
-    /// open for work.
+    /// [`EmptyName`](Refusal::EmptyName) (15), [`UnknownName`](Refusal::UnknownName) (11), for another's private file too,
+    /// [`NotNow`](Refusal::NotNow) (14) while the file is open for work.
     ///
     /// ```
     /// use dorrivand::{pointer, Refusal, Species, Store};

@@ -13,7 +13,7 @@ pub enum Refusal {
     NoRoom = 9,
     PositionsUsedUp = 10,
     UnknownName = 11,
-    NotYours = 12,
+    // Document 02: "12 is never given again." The number stays a hole, so that no other refusal is taken for the old one.
     NoWorkOnAnothers = 13,
     NotNow = 14,
     OldFileWithoutName = 15,

@@ -13,6 +13,7 @@ mod forging;
 mod lengths;
 mod lists;
 pub mod mode;
+mod namesakes;
 mod openings;
 mod random;
 mod runs;

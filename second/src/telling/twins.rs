@@ -1,5 +1,6 @@
 //! Second records and second openings like ones that are there.
 
+use super::arguments::text_of;
 use super::teller::Teller;
 use crate::cells::fields::{self, opening as of_opening, record as of_record};
 use crate::text::line::BufferName;
@@ -34,9 +35,27 @@ impl Teller {
         }
         self.say("free 7");
         self.look();
+        if self.random.chance(60) {
+            self.ask_for_the_twins(other);
+        }
         if self.random.chance(40) {
             self.put_into_tables(other, &[0; of_record::COUNT]);
             self.say("free 6");
+        }
+    }
+
+    /// Both by their one name, which both owners and somebody else say, if the tables are sound with them.
+    fn ask_for_the_twins(&mut self, place: usize) {
+        let name = match self.catalogue().and_then(|catalogue| catalogue.records[place].as_ref()) {
+            Some(record) => record.name,
+            None => return,
+        };
+        let mut users = self.owners_of(&name);
+        users.push(self.random.below(8));
+        for user in users {
+            if let Some(entry) = self.ask_by_name(user, &text_of(&name)) {
+                self.say(format!("abandon {} {}", user, entry));
+            }
         }
     }
 

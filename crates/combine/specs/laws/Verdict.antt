@@ -2,7 +2,7 @@
 use Prim.Native.Nat.{ℕ}
 use mathlib.Core.Path.{_≡_}
 use mathlib.Core.Bool.{Bool, true, false}
-use Rattle.combine.specs.Verdict.{Verdict, refuse_when_else_, refused}
+use Rattle.combine.specs.Verdict.{Verdict, refuse_when_else_, refused, done, onDone}
 
 module _ {S : Type 0} where
   pub refused-here : (n : ℕ) (b : Bool) (v : Verdict S) → b ≡ true → refuse_when_else_ n b v ≡ refused n
@@ -12,5 +12,21 @@ module _ {S : Type 0} where
   pub went-on : (n : ℕ) (b : Bool) (v w : Verdict S) → b ≡ false → v ≡ w → refuse_when_else_ n b v ≡ w
   unfolding refuse_when_else_
   went-on n b v w e h = rw e h
+
+-- ---- what is so of every number by which a verdict may refuse
+
+abbrev pub Refuses : {S : Type 0} → (ℕ → Type 0) → Verdict S → Type 0
+Refuses P (refused n) = P n
+Refuses P (done s) = Unit {0}
+
+module _ (P : ℕ → Type 0) where
+  pub refuses : {S : Type 0} (n : ℕ) (b : Bool) (v : Verdict S) → P n → Refuses P v → Refuses P (refuse_when_else_ n b v)
+  unfolding refuse_when_else_
+  refuses n true v p h = p
+  refuses n false v p h = h
+
+  pub refuses-onDone : {A B : Type 0} (f : A → B) (v : Verdict A) → Refuses P v → Refuses P (onDone f v)
+  refuses-onDone f (refused n) h = h
+  refuses-onDone f (done a) h = tt
 
 pub ruleset chain = (refused-here, went-on)

@@ -1,7 +1,7 @@
 -- `choosing::choose` meets its contract. Assumes nothing.
 use mathlib.Core.Path.{sym, _∙_}
 use native.Mathlib.Omega.{arith}
-use Rattle.open_choice.proofs.Chain.{empty-name, found-used, look-up-found, not-yours, unknown}
+use Rattle.open_choice.proofs.Chain.{empty-name, found-used, look-up-found, unknown}
 use borrow.Author.Needs.{needs}
 use Rattle.open_choice.proofs.choose.Statement.{statement}
 use Rattle.open_choice.proofs.choose.Tie as tie
@@ -25,20 +25,11 @@ returns-2 c =
     let s = m .before .before in
     (c .found .ensures .0 ∙ look-up-found _ _ _ _ (sym (s .before .is-scratch .ensures) ∙ s .if1 .left) _ (m .look-up .ensures) (c .before .if2 .taken), c .found .ensures .1)
 
-find-requires : tie.Need-find-requires
-find-requires c κs = search needs
-
 returns-3 : tie.Need-returns-3
 returns-3 c =
-    let m = c .before .before .before .before in
+    let m = c .before in
     let s = m .before .before in
-    (not-yours _ _ _ _ (sym (s .before .is-scratch .ensures) ∙ s .if1 .left) _ (m .look-up .ensures) (c .before .before .before .if2 .left) _ (c .before .find .ensures) (c .if3 .taken), tt)
-
-returns-4 : tie.Need-returns-4
-returns-4 c =
-    let m = c .before .before .before .before in
-    let s = m .before .before in
-    (unknown _ _ _ _ (sym (s .before .is-scratch .ensures) ∙ s .if1 .left) _ (m .look-up .ensures) (c .before .before .before .if2 .left) _ (c .before .find .ensures) (c .if3 .left), tt)
+    (unknown _ _ _ _ (sym (s .before .is-scratch .ensures) ∙ s .if1 .left) _ (m .look-up .ensures) (c .if2 .left), tt)
 
 pub choose-spec : {M : Type 1} → statement M
 choose-spec =
@@ -49,6 +40,4 @@ choose-spec =
     look-up-requires
     found-requires
     returns-2
-    find-requires
-    returns-3
-    returns-4)
+    returns-3)

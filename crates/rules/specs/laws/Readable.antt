@@ -1,16 +1,24 @@
--- Laws of rules/specs/Readable.antt: what look-up finds the user may read. Assumes nothing.
-use Prim.Native.Nat.{ℕ, _<_}
+-- Laws of rules/specs/Readable.antt: what look-up finds the user may read; what he may not read looks absent. Assumes nothing.
+use Prim.Native.Nat.{ℕ, _≤_, _<_}
+use mathlib.Core.Path.{_≡_, refl, sym, ap, _∙_}
+use mathlib.Core.Logic.{⊎-elim}
 use mathlib.Core.Bool.{Bool, true, false, not, cond}
 use mathlib.Core.Option.{Option, none, some}
-use mathlib.Core.List.{List}
+use mathlib.Core.List.{List, map}
 use lib.Dec.{T, eqb, ltb}
-use lib.ListN.{length, getD}
+use lib.ListN.{length, getD, length-map, List·getD-map, List·getD-eq-default}
 use Rattle.combine.specs.Lists.{firstWhere}
-use Rattle.combine.specs.laws.Tests.{or-first, or-second, and-first}
+use Rattle.combine.specs.Verdict.{refuse_when_else_}
+use Rattle.combine.specs.laws.Numbers.{le-or-lt}
+use Rattle.combine.specs.laws.Tests.{by-test, false-of, or-first, or-second, and-first}
+use Rattle.combine.specs.laws.Searches.{first-map}
+use Rattle.names.specs.Names.{nameOf, isScratch}
 use Rattle.combine.specs.laws.Replaced.{first-where}
+use Rattle.rules.specs.Calls.{Way, new, work, read}
 use Rattle.rules.specs.Headings.{Heading, passes}
-use Rattle.rules.specs.Rules.{isOwn, isPublic, lookUp}
-use Rattle.rules.specs.Readable.{mayRead}
+use Rattle.rules.specs.Effects.{Others}
+use Rattle.rules.specs.Rules.{hasName, isOwn, isPublic, lookUp, openRecord, openOld, openWay}
+use Rattle.rules.specs.Readable.{mayRead, only}
 
 -- what is at a place, if anything is
 abbrev pub mayReadAt : (user : ℕ) → Option Heading → Bool
@@ -19,11 +27,11 @@ mayReadAt u (some r) = mayRead u r
 
 own-read : (u : ℕ) (n : List ℕ) (x : Option Heading) → T (passes (isOwn u n) x) → T (mayReadAt u x)
 own-read u n none t = tt
-own-read u n (some r) t = or-second (not (r .private)) (eqb (r .owner) u) (and-first (eqb (r .owner) u) _ t)
+own-read u n (some r) t = or-second (not (r .private)) (eqb (r .owner) u) (and-first (eqb (r .owner) u) (hasName n r) t)
 
 public-read : (u : ℕ) (n : List ℕ) (x : Option Heading) → T (passes (isPublic n) x) → T (mayReadAt u x)
 public-read u n none t = tt
-public-read u n (some r) t = or-first (not (r .private)) (eqb (r .owner) u) (and-first (not (r .private)) _ t)
+public-read u n (some r) t = or-first (not (r .private)) (eqb (r .owner) u) (and-first (not (r .private)) (hasName n r) t)
 
 pub look-up-read : (u : ℕ) (n : List ℕ) (rs : List (Option Heading)) → lookUp u n rs < length rs → T (mayReadAt u (getD rs (lookUp u n rs) none))
 unfolding lookUp
@@ -38,3 +46,54 @@ look-up-read u n rs = go (ltb own (length rs))
     go : (b : Bool) → cond b own public < length rs → T (mayReadAt u (getD rs (cond b own public) none))
     go true l = own-read u n (getD rs own none) (first-where (passes (isOwn u n)) rs none l)
     go false l = public-read u n (getD rs public none) (first-where (passes (isPublic n)) rs none l)
+
+-- ---- the catalogue from which all private files of others are taken away
+
+-- what passes is there as before
+pub only-kept : {A : Type 0} (f : A → Bool) (a : A) → T (f a) → only f (some a) ≡ some a
+only-kept f a t = go (f a) t
+  where
+    go : (b : Bool) → T b → cond b (some a) none ≡ some a
+    go true t = refl
+    go false t = absurd t
+
+kept : (u : ℕ) (x : Option Heading) → T (mayReadAt u x) → only (mayRead u) x ≡ x
+kept u none t = refl
+kept u (some r) t = only-kept (mayRead u) r t
+
+-- a search for what he may read is not changed
+search-same : (u : ℕ) (f : Heading → Bool) → ((x : Option Heading) → T (passes f x) → T (mayReadAt u x)) → (x : Option Heading) → passes f (only (mayRead u) x) ≡ passes f x
+search-same u f h none = refl
+search-same u f h (some r) = go (mayRead u r) (h (some r))
+  where
+    go : (b : Bool) → (T (f r) → T b) → passes f (cond b (some r) none) ≡ f r
+    go true k = refl
+    go false k = by-test (f r) (λ t. absurd (k t)) (λ t. sym (false-of (f r) t))
+
+module _ (u : ℕ) (n : List ℕ) (rs : List (Option Heading)) where
+  look-up-same : lookUp u n (map (only (mayRead u)) rs) ≡ lookUp u n rs
+  unfolding lookUp
+  look-up-same =
+      let own = first-map (passes (isOwn u n)) (passes (isOwn u n)) (only (mayRead u)) (search-same u (isOwn u n) (own-read u n)) rs in
+      let public = first-map (passes (isPublic n)) (passes (isPublic n)) (only (mayRead u)) (search-same u (isPublic n) (public-read u n)) rs in
+      λ i. cond (ltb (own i) (length-map rs (only (mayRead u)) i)) (own i) (public i)
+
+  found-same : getD (map (only (mayRead u)) rs) (lookUp u n rs) none ≡ getD rs (lookUp u n rs) none
+  found-same =
+      List·getD-map (only (mayRead u)) rs (lookUp u n rs) none
+      ∙ ⊎-elim (λ l. ap (only (mayRead u)) (nothing l) ∙ sym (nothing l)) (λ l. kept u (getD rs (lookUp u n rs) none) (look-up-read u n rs l)) (le-or-lt (length rs) (lookUp u n rs))
+    where
+      nothing : length rs ≤ lookUp u n rs → getD rs (lookUp u n rs) none ≡ none
+      nothing l = List·getD-eq-default rs none l
+
+  old-absent : (w : Bool) (o : Others) → openOld w u n (map (only (mayRead u)) rs) o ≡ openOld w u n rs o
+  unfolding openOld
+  old-absent w o =
+      let found = ap (λ (p : ℕ). getD (map (only (mayRead u)) rs) p none) look-up-same ∙ found-same in
+      λ i. refuse 15 when isScratch n else openRecord w u (look-up-same i) (found i) o
+
+-- "A file that is another's and private must look absent": the verdict on an opening is the same without such files
+pub way-absent : (w : Way) (u : ℕ) (rs : List (Option Heading)) (o : Others) → openWay w u (map (only (mayRead u)) rs) o ≡ openWay w u rs o
+way-absent (new s) u rs o = refl
+way-absent (work bytes) u rs o = old-absent u (nameOf bytes) rs true o
+way-absent (read bytes) u rs o = old-absent u (nameOf bytes) rs false o
