@@ -1,7 +1,9 @@
 -- Laws of answers/specs/Said.antt. Assumes nothing.
 use Prim.Native.Nat.{ℕ, _-_}
 use mathlib.Core.Path.{_≡_, refl, sym, ap, _∙_}
+use mathlib.Core.Logic.{_≢_}
 use mathlib.Core.List.{[], _∷_}
+use native.Mathlib.Omega.{arith}
 use lib.ListN.{getD}
 use Rattle.answers.specs.declared.Refusal.{Refusal}
 use Rattle.answers.specs.declared.Refusal.the-variants as R
@@ -39,6 +41,13 @@ refusal-of R.Species = refl
 refusal-of R.Tables = refl
 refusal-of R.Pointers = refl
 refusal-of R.Image = refl
+
+-- "12 is never given again": no refusal has the number
+pub twelve-is-none : (r : Refusal) → refusalNumber r ≢ 12
+unfolding refusalOf
+twelve-is-none r e =
+    let one : _≡_ {A = ℕ} 1 12 = ap refusalNumber (sym (ap refusalOf e) ∙ refusal-of r) ∙ e in
+    omega arith
 
 answerOf : Said → Answer
 answerOf (done n) = Done n
