@@ -1,4 +1,4 @@
--- `closing_calls::carry` meets its contract. Assumes nothing.
+-- `call_close::carry` meets its contract. Assumes nothing.
 use denote.Ref.{now}
 use Rattle.call_close.proofs.Carried.{unfiles-inside, files-inside, carried-no, carried-ends, carried-unfiles, carried-files}
 use borrow.Author.Needs.{needs}

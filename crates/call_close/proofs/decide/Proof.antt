@@ -1,4 +1,4 @@
--- `closing_calls::decide` meets its contract. Assumes nothing.
+-- `call_close::decide` meets its contract. Assumes nothing.
 use denote.Ref.{now}
 use Rattle.call_close.proofs.Carried.{close-decided, abandon-decided}
 use borrow.Author.Needs.{needs}

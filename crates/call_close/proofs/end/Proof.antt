@@ -1,4 +1,4 @@
--- `closing_calls::end` meets its contract. Assumes nothing.
+-- `call_close::end` meets its contract. Assumes nothing.
 use borrow.Author.Needs.{needs}
 use Rattle.call_close.proofs.end.Statement.{statement}
 use Rattle.call_close.proofs.end.Tie as tie

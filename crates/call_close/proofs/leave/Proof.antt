@@ -1,4 +1,4 @@
--- `closing_calls::leave` meets its contract. Assumes nothing.
+-- `call_close::leave` meets its contract. Assumes nothing.
 use denote.Ref.{now}
 use Rattle.gate_laws.specs.Behind.{passed-long, passed-few}
 use Rattle.call_close.proofs.Left.{left-not, here, left-place, left-out}

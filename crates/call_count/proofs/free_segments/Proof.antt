@@ -1,4 +1,4 @@
--- `counting::free_segments` meets its contract. Assumes nothing.
+-- `call_count::free_segments` meets its contract. Assumes nothing.
 use borrow.Author.Needs.{needs}
 use Rattle.combine.specs.laws.Below.{was-true}
 use Rattle.tables.specs.laws.Sound.{ranged-of}

@@ -1,4 +1,4 @@
--- `fresh::fresh` meets its contract. Assumes nothing.
+-- `call_fresh::fresh` meets its contract. Assumes nothing.
 use denote.Ref.{now}
 use native.Mathlib.Omega.{arith}
 use Rattle.call_fresh.proofs.Laws.{wrong-length, small-store, started}

@@ -1,4 +1,4 @@
--- `loading::judged` meets its contract. Assumes nothing.
+-- `call_load::judged` meets its contract. Assumes nothing.
 use Prim.Native.Nat.{ℕ}
 use mathlib.Core.Path.{sym, ap, _∙_}
 use denote.Ref.{now}

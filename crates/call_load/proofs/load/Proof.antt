@@ -1,4 +1,4 @@
--- `loading::load` meets its contract. Assumes nothing.
+-- `call_load::load` meets its contract. Assumes nothing.
 use denote.Ref.{now}
 use native.Mathlib.Omega.{arith}
 use borrow.Author.Needs.{needs}

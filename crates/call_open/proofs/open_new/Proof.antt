@@ -1,4 +1,4 @@
--- `opening_calls::open_new` meets its contract. Assumes nothing.
+-- `call_open::open_new` meets its contract. Assumes nothing.
 use native.Mathlib.Omega.{arith}
 use denote.Ref.{now}
 use Rattle.rules.specs.Calls.{new}

@@ -1,4 +1,4 @@
--- `opening_calls::open_old` meets its contract. Assumes nothing.
+-- `call_open::open_old` meets its contract. Assumes nothing.
 use mathlib.Core.Path.{subst}
 use denote.Ref.{now}
 use Rattle.open_choice.specs.Chosen.{There}

@@ -1,4 +1,4 @@
--- `opening_calls::open_record` meets its contract. Assumes nothing.
+-- `call_open::open_record` meets its contract. Assumes nothing.
 use borrow.Author.Needs.{needs}
 use Rattle.call_open.proofs.open_record.Statement.{statement}
 use Rattle.call_open.proofs.open_record.Tie as tie

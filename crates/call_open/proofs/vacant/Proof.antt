@@ -1,4 +1,4 @@
--- `opening_calls::vacant` meets its contract. Assumes nothing.
+-- `call_open::vacant` meets its contract. Assumes nothing.
 use native.Mathlib.Omega.{arith}
 use denote.Ref.{now}
 use Rattle.call_open.proofs.Entry.{no-entry, here, already-open, is-vacant}

@@ -1,4 +1,4 @@
--- `rename::rename` meets its contract. Assumes nothing.
+-- `call_rename::rename` meets its contract. Assumes nothing.
 use denote.Ref.{now}
 use Rattle.call_rename.proofs.Renamed.{not-renamed, here, renamed}
 use Rattle.gate_laws.specs.Behind.{passed-long, passed-few}

@@ -1,4 +1,4 @@
--- `saving::save` meets its contract. Assumes nothing.
+-- `call_save::save` meets its contract. Assumes nothing.
 use denote.Ref.{now}
 use borrow.Author.Needs.{needs}
 use Rattle.combine.specs.laws.Below.{was-true, was-false}

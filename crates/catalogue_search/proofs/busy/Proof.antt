@@ -1,4 +1,4 @@
--- `lookup::busy` meets its contract: no entry below `entry` keeps others off. Assumes nothing.
+-- `catalogue_search::busy` meets its contract: no entry below `entry` keeps others off. Assumes nothing.
 use Prim.Native.Nat.{_≤_, _-_}
 use mathlib.Core.Path.{_≡_, sym, _∙_}
 use native.Mathlib.Omega.{arith}

@@ -1,4 +1,4 @@
--- `lookup::find` meets its contract: no place below `place` has such a record. Assumes nothing.
+-- `catalogue_search::find` meets its contract: no place below `place` has such a record. Assumes nothing.
 use Prim.Native.Nat.{_≤_, _-_}
 use mathlib.Core.Path.{_≡_, sym, _∙_}
 use native.Mathlib.Omega.{arith}

@@ -1,4 +1,4 @@
--- `lookup::fits` meets its contract. Assumes nothing.
+-- `catalogue_search::fits` meets its contract. Assumes nothing.
 use mathlib.Core.Path.{_∙_}
 use denote.Ref.{now}
 use Rattle.combine.specs.laws.Below.{was-false, was-true}

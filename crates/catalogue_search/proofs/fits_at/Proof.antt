@@ -1,4 +1,4 @@
--- `lookup::fits_at` meets its contract. Assumes nothing.
+-- `catalogue_search::fits_at` meets its contract. Assumes nothing.
 use mathlib.Core.Path.{_∙_}
 use Rattle.catalogue_search.proofs.Fitting.{named-itself, in-its-row}
 use borrow.Author.Needs.{needs}

@@ -1,4 +1,4 @@
--- `lookup::keeps_off` meets its contract. Assumes nothing.
+-- `catalogue_search::keeps_off` meets its contract. Assumes nothing.
 use Rattle.catalogue_search.proofs.Fitting.{not-open, elsewhere, from-work, from-reading}
 use borrow.Author.Needs.{needs}
 use Rattle.catalogue_search.proofs.keeps_off.Statement.{statement}

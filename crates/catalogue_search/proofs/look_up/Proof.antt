@@ -1,4 +1,4 @@
--- `lookup::look_up` meets its contract. Assumes nothing.
+-- `catalogue_search::look_up` meets its contract. Assumes nothing.
 use Rattle.catalogue_search.proofs.Searched.{own-first, then-public}
 use borrow.Author.Needs.{needs}
 use Rattle.catalogue_search.proofs.look_up.Statement.{statement}

@@ -1,4 +1,4 @@
--- `lookup::unused` meets its contract: every place below `lowest` is used. Assumes nothing.
+-- `catalogue_search::unused` meets its contract: every place below `lowest` is used. Assumes nothing.
 use Prim.Native.Nat.{_≤_, _-_}
 use mathlib.Core.Path.{_≡_}
 use native.Mathlib.Omega.{arith}

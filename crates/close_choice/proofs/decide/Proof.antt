@@ -1,4 +1,4 @@
--- `filing::decide` meets its contract. Assumes nothing.
+-- `close_choice::decide` meets its contract. Assumes nothing.
 use mathlib.Core.Path.{sym, _∙_}
 use denote.Ref.{now}
 use Rattle.close_choice.proofs.Chain.{scratch-closed, read-closed, work-closed}

@@ -1,4 +1,4 @@
--- `filing::ending` meets its contract. Assumes nothing.
+-- `close_choice::ending` meets its contract. Assumes nothing.
 use native.Mathlib.Omega.{arith}
 use Rattle.close_choice.proofs.Chain.{not-public, read-ends, scratch-ends, record-freed}
 use borrow.Author.Needs.{needs}

@@ -1,4 +1,4 @@
--- `filing::filing` meets its contract. Assumes nothing.
+-- `close_choice::filing` meets its contract. Assumes nothing.
 use denote.Ref.{now}
 use Rattle.close_choice.proofs.Chain.{name-taken, no-place, becomes-record}
 use borrow.Author.Needs.{needs}

@@ -1,4 +1,4 @@
--- `filing::place_for` meets its contract. Assumes nothing.
+-- `close_choice::place_for` meets its contract. Assumes nothing.
 use denote.Ref.{now}
 use Rattle.close_choice.proofs.Chain.{new-place, old-place}
 use borrow.Author.Needs.{needs}

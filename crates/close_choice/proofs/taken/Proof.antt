@@ -1,4 +1,4 @@
--- `filing::taken` meets its contract. Assumes nothing.
+-- `close_choice::taken` meets its contract. Assumes nothing.
 use denote.Ref.{now}
 use Rattle.close_choice.proofs.Chain.{own-taken, private-free, public-taken}
 use borrow.Author.Needs.{needs}

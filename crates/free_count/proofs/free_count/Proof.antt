@@ -1,4 +1,4 @@
--- `free::free_count` meets its contract: the marks are zero at first, and then only the free numbers are unmarked. Assumes nothing.
+-- `free_count::free_count` meets its contract: the marks are zero at first, and then only the free numbers are unmarked. Assumes nothing.
 use denote.Ref.{now}
 use borrow.Author.Needs.{needs}
 use Rattle.free_count.proofs.Marks.{free-counted}

@@ -1,4 +1,4 @@
--- `free::held_by` meets its contract: what `placing::held` asks is required where the first cell is not 0. Assumes nothing.
+-- `free_count::held_by` meets its contract: what `placing::held` asks is required where the first cell is not 0. Assumes nothing.
 use mathlib.Core.Path.{_≡_, sym, ap, _∙_}
 use native.Mathlib.Omega.{arith}
 use borrow.Author.Tests.{eq-eqb, ne-eqb}

@@ -1,4 +1,4 @@
--- `free::held_in` meets its contract: the cells are those of the record, or of the opening. Assumes nothing.
+-- `free_count::held_in` meets its contract: the cells are those of the record, or of the opening. Assumes nothing.
 use native.Mathlib.Omega.{arith}
 use denote.Ref.{now}
 use Rattle.free_count.proofs.Cells.{held-record, extent-record, held-opening, extent-opening}

@@ -1,4 +1,4 @@
--- `free::mark_lists` meets its contract: unmarked is what was unmarked and is in none of the first `list` lists. Assumes nothing.
+-- `free_count::mark_lists` meets its contract: unmarked is what was unmarked and is in none of the first `list` lists. Assumes nothing.
 use Prim.Native.Nat.{_≤_, _-_}
 use mathlib.Core.Path.{_≡_, _∙_}
 use mathlib.Core.Bool.{not, _&&_}

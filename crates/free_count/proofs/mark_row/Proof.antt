@@ -1,4 +1,4 @@
--- `free::mark_row` meets its contract: unmarked is what was unmarked and is not among the first `k` numbers of the row. Assumes nothing.
+-- `free_count::mark_row` meets its contract: unmarked is what was unmarked and is not among the first `k` numbers of the row. Assumes nothing.
 use Prim.Native.Nat.{_≤_, _<_, _-_}
 use mathlib.Core.Path.{_≡_, refl, _∙_}
 use native.Mathlib.Omega.{arith}

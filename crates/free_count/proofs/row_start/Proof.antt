@@ -1,4 +1,4 @@
--- `free::row_start` meets its contract: the place of a row, by the list's kind. Assumes nothing.
+-- `free_count::row_start` meets its contract: the place of a row, by the list's kind. Assumes nothing.
 use native.Mathlib.Omega.{arith}
 use borrow.Author.Needs.{needs}
 use Rattle.free_count.specs.Rows.{start-record, start-opening}

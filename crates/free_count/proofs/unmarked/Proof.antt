@@ -1,4 +1,4 @@
--- `free::unmarked` meets its contract: `count` is the count below `number`. Assumes nothing.
+-- `free_count::unmarked` meets its contract: `count` is the count below `number`. Assumes nothing.
 use Prim.Native.Nat.{ℕ, _+_, _≤_, _-_}
 use mathlib.Core.Path.{_≡_, ap, _∙_}
 use mathlib.Core.Bool.{Bool}

@@ -1,4 +1,4 @@
--- `lowest::held_rows` meets its contract: the rows are those of the first `i` lists, without the empty ones. Assumes nothing.
+-- `free_lowest::held_rows` meets its contract: the rows are those of the first `i` lists, without the empty ones. Assumes nothing.
 use Prim.Native.Nat.{ℕ, _≤_, _-_}
 use mathlib.Core.Path.{_≡_, refl, subst}
 use native.Mathlib.Omega.{arith}

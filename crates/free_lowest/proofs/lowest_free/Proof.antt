@@ -1,4 +1,4 @@
--- `lowest::lowest_free` meets its contract: the search: no segment below `number` is free; the scan: no row scanned has `number`. Assumes nothing.
+-- `free_lowest::lowest_free` meets its contract: the search: no segment below `number` is free; the scan: no row scanned has `number`. Assumes nothing.
 use Prim.Native.Nat.{ℕ, _+_, _≤_, _-_}
 use mathlib.Core.Logic.{⊎-elim}
 use mathlib.Core.Path.{_≡_, refl, sym, ap, subst, _∙_}

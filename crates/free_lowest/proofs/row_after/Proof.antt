@@ -1,4 +1,4 @@
--- `lowest::row_after` meets its contract: by whether there is a row behind. Assumes nothing.
+-- `free_lowest::row_after` meets its contract: by whether there is a row behind. Assumes nothing.
 use mathlib.Core.Path.{sym}
 use native.Mathlib.Omega.{arith}
 use borrow.Author.Needs.{needs}

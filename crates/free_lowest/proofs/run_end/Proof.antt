@@ -1,4 +1,4 @@
--- `lowest::run_end` meets its contract: what is left of the row has the end of the whole. Assumes nothing.
+-- `free_lowest::run_end` meets its contract: what is left of the row has the end of the whole. Assumes nothing.
 use Prim.Native.Nat.{_+_, _-_, _≤_}
 use mathlib.Core.Path.{_≡_, refl, sym, _∙_}
 use native.Mathlib.Omega.{arith}

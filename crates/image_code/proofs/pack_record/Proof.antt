@@ -1,4 +1,4 @@
--- `encoding::pack_record` meets its contract: the fields fill four cells, the segment numbers ten. Assumes nothing.
+-- `image_code::pack_record` meets its contract: the fields fill four cells, the segment numbers ten. Assumes nothing.
 use Prim.Native.Nat.{ℕ}
 use mathlib.Core.Path.{ap, _∙_}
 use mathlib.Core.List.{_++_}

@@ -1,4 +1,4 @@
--- `encoding::put_head` meets its contract: three fields fill a cell. Assumes nothing.
+-- `image_code::put_head` meets its contract: three fields fill a cell. Assumes nothing.
 use Prim.Native.Nat.{ℕ}
 use mathlib.Core.Path.{refl, ap, _∙_}
 use mathlib.Core.List.{[], _∷_}

@@ -1,4 +1,4 @@
--- `encoding::put_image` meets its contract: the head, and then the records. Assumes nothing.
+-- `image_code::put_image` meets its contract: the head, and then the records. Assumes nothing.
 use denote.Ref.{now}
 use Rattle.image_code.proofs.Made.{image-made}
 use borrow.Author.Needs.{needs}

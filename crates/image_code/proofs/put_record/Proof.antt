@@ -1,4 +1,4 @@
--- `encoding::put_record` meets its contract: numbers that are all zero fill cells that are. Assumes nothing.
+-- `image_code::put_record` meets its contract: numbers that are all zero fill cells that are. Assumes nothing.
 use Prim.Native.Nat.{ℕ}
 use mathlib.Core.Path.{sym, ap, _∙_}
 use denote.Ref.{now}

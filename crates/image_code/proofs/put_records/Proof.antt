@@ -1,4 +1,4 @@
--- `encoding::put_records` meets its contract: after p turns the image has p records after its first cell. Assumes nothing.
+-- `image_code::put_records` meets its contract: after p turns the image has p records after its first cell. Assumes nothing.
 use Prim.Native.Nat.{ℕ, _+_, _-_, _*_, _≤_}
 use mathlib.Core.Path.{_≡_, refl, sym, ap, subst, _∙_}
 use mathlib.Core.List.{List}

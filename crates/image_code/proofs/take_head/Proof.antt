@@ -1,4 +1,4 @@
--- `encoding::take_head` meets its contract: three fields fill a cell. Assumes nothing.
+-- `image_code::take_head` meets its contract: three fields fill a cell. Assumes nothing.
 use mathlib.Core.Path.{refl}
 use native.Mathlib.Omega.{arith}
 use Rattle.image.specs.Image.{headWidths}

@@ -1,4 +1,4 @@
--- `encoding::take_image` meets its contract: zeros, the head's number of segments, and the records. Assumes nothing.
+-- `image_code::take_image` meets its contract: zeros, the head's number of segments, and the records. Assumes nothing.
 use Prim.Native.Nat.{ℕ}
 use mathlib.Core.Path.{ap, _∙_}
 use denote.Ref.{now}

@@ -1,4 +1,4 @@
--- `encoding::take_record` meets its contract: cells that are all zero have numbers that are. Assumes nothing.
+-- `image_code::take_record` meets its contract: cells that are all zero have numbers that are. Assumes nothing.
 use Prim.Native.Nat.{ℕ}
 use mathlib.Core.Path.{sym, ap, _∙_}
 use denote.Ref.{now}

@@ -1,4 +1,4 @@
--- `encoding::take_records` meets its contract: after p turns the tables have p records after their first cell. Assumes nothing.
+-- `image_code::take_records` meets its contract: after p turns the tables have p records after their first cell. Assumes nothing.
 use Prim.Native.Nat.{ℕ, _+_, _-_, _*_, _≤_}
 use mathlib.Core.Path.{_≡_, refl, ap, _∙_}
 use mathlib.Core.List.{List}

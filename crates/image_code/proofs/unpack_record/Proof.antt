@@ -1,4 +1,4 @@
--- `encoding::unpack_record` meets its contract: four cells have the fields, ten the segment numbers. Assumes nothing.
+-- `image_code::unpack_record` meets its contract: four cells have the fields, ten the segment numbers. Assumes nothing.
 use mathlib.Core.Path.{_∙_}
 use mathlib.Core.List.{_++_}
 use denote.Ref.{now}

@@ -1,4 +1,4 @@
--- `choosing::choose` meets its contract. Assumes nothing.
+-- `open_choice::choose` meets its contract. Assumes nothing.
 use mathlib.Core.Path.{sym, _∙_}
 use native.Mathlib.Omega.{arith}
 use Rattle.open_choice.proofs.Chain.{empty-name, found-used, look-up-found, unknown}

@@ -1,4 +1,4 @@
--- `choosing::found` meets its contract. Assumes nothing.
+-- `open_choice::found` meets its contract. Assumes nothing.
 use Rattle.open_choice.proofs.Chain.{no-work, not-now, opened-here}
 use borrow.Author.Needs.{needs}
 use Rattle.open_choice.proofs.found.Statement.{statement}

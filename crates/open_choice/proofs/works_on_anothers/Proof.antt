@@ -1,4 +1,4 @@
--- `choosing::works_on_anothers` meets its contract. Assumes nothing.
+-- `open_choice::works_on_anothers` meets its contract. Assumes nothing.
 use denote.Ref.{now}
 use Rattle.open_choice.proofs.Chain.{not-for-work, for-work}
 use borrow.Author.Needs.{needs}

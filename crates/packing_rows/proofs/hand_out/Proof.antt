@@ -1,4 +1,4 @@
--- `rows::hand_out` meets its contract. Assumes nothing.
+-- `packing_rows::hand_out` meets its contract. Assumes nothing.
 use Prim.Native.Nat.{ℕ, _+_, _-_}
 use mathlib.Core.Path.{_≡_, _∙_}
 use denote.Ref.{now}

@@ -1,4 +1,4 @@
--- `rows::pack` meets its contract. Assumes nothing.
+-- `packing_rows::pack` meets its contract. Assumes nothing.
 use Prim.Native.Nat.{ℕ, _-_, _*_, _/_, _^_, _≤_}
 use mathlib.Core.Path.{_≡_, refl, sym, ap, _∙_}
 use denote.Ref.{now}

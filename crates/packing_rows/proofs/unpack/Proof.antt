@@ -1,4 +1,4 @@
--- `rows::unpack` meets its contract. Assumes nothing.
+-- `packing_rows::unpack` meets its contract. Assumes nothing.
 use Prim.Native.Nat.{_+_, _-_, _^_, _≤_, _<_}
 use mathlib.Core.Path.{_≡_, refl, _∙_}
 use denote.Ref.{now}

@@ -1,4 +1,4 @@
--- `extents::extent_sound` meets its contract. Assumes nothing.
+-- `sound_extents::extent_sound` meets its contract. Assumes nothing.
 use Prim.Native.Nat.{ℕ}
 use mathlib.Core.Path.{ap}
 use native.Mathlib.Omega.{arith}

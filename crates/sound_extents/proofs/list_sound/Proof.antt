@@ -1,4 +1,4 @@
--- `extents::list_sound` meets its contract. Assumes nothing.
+-- `sound_extents::list_sound` meets its contract. Assumes nothing.
 use mathlib.Core.Path.{_∙_}
 use denote.Ref.{now}
 use borrow.Author.Needs.{needs}

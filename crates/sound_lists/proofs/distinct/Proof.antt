@@ -1,4 +1,4 @@
--- `distinct::distinct` meets its contract: the marks remember the lists before `i`. Assumes nothing.
+-- `sound_lists::distinct` meets its contract: the marks remember the lists before `i`. Assumes nothing.
 use Prim.Native.Nat.{_≤_, _-_}
 use native.Mathlib.Omega.{arith}
 use borrow.Author.Tests.{not-true, not-false}

@@ -1,4 +1,4 @@
--- `distinct::family_of` meets its contract. Assumes nothing.
+-- `sound_lists::family_of` meets its contract. Assumes nothing.
 use borrow.Author.Tests.{eq-eqb, ne-eqb}
 use borrow.Author.Needs.{needs}
 use Rattle.sound_lists.proofs.family_of.Statement.{statement}

@@ -1,4 +1,4 @@
--- `distinct::mark` meets its contract. Assumes nothing.
+-- `sound_lists::mark` meets its contract. Assumes nothing.
 use Rattle.sound_lists.proofs.Marking.{mark-fresh, mark-again}
 use borrow.Author.Needs.{needs}
 use Rattle.sound_lists.proofs.mark.Statement.{statement}

@@ -1,4 +1,4 @@
--- `distinct::mark_file` meets its contract. Assumes nothing.
+-- `sound_lists::mark_file` meets its contract. Assumes nothing.
 use Prim.Native.Nat.{_+_, _*_, _<_}
 use native.Mathlib.Omega.{arith}
 use Rattle.placing.specs.Sizes.{mostStretches}

@@ -1,4 +1,4 @@
--- `distinct::mark_list` meets its contract. Assumes nothing.
+-- `sound_lists::mark_list` meets its contract. Assumes nothing.
 use Prim.Native.Nat.{ℕ, _+_, _-_}
 use mathlib.Core.Path.{_≡_, subst}
 use native.Mathlib.Omega.{arith}

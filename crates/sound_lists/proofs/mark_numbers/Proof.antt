@@ -1,4 +1,4 @@
--- `distinct::mark_numbers` meets its contract: the numbers before `k` are marked. Assumes nothing.
+-- `sound_lists::mark_numbers` meets its contract: the numbers before `k` are marked. Assumes nothing.
 use Prim.Native.Nat.{_-_, _≤_}
 use native.Mathlib.Omega.{arith}
 use Rattle.combine.specs.laws.Below.{was-true, was-false}

@@ -1,4 +1,4 @@
--- `distinct::mark_opening` meets its contract. Assumes nothing.
+-- `sound_lists::mark_opening` meets its contract. Assumes nothing.
 use Prim.Native.Nat.{_+_}
 use native.Mathlib.Omega.{arith}
 use Rattle.sound_lists.specs.ListCells.{opening-held-closed}

@@ -1,4 +1,4 @@
--- `distinct::mark_record` meets its contract. Assumes nothing.
+-- `sound_lists::mark_record` meets its contract. Assumes nothing.
 use native.Mathlib.Omega.{arith}
 use Rattle.sound_lists.specs.ListCells.{record-held-unused}
 use Rattle.sound_lists.specs.Files.{file-cells, record-file}

@@ -1,4 +1,4 @@
--- `records::each_sound` meets its contract: the records before place `p` are sound. Assumes nothing.
+-- `sound_records::each_sound` meets its contract: the records before place `p` are sound. Assumes nothing.
 use Prim.Native.Nat.{_≤_, _-_}
 use mathlib.Core.Path.{_≡_, ap, _∙_}
 use mathlib.Core.Bool.{true}

@@ -1,4 +1,4 @@
--- `records::record_sound` meets its contract. Assumes nothing.
+-- `sound_records::record_sound` meets its contract. Assumes nothing.
 use mathlib.Core.Path.{_∙_}
 use denote.Ref.{now}
 use borrow.Author.Tests.{eq-eqb, ne-eqb}

@@ -1,4 +1,4 @@
--- `records::records_sound` meets its contract: names are compared where each record is sound. Assumes nothing.
+-- `sound_records::records_sound` meets its contract: names are compared where each record is sound. Assumes nothing.
 use denote.Ref.{now}
 use borrow.Author.Needs.{needs}
 use Rattle.combine.specs.laws.Below.{all-at, was-true, was-false}

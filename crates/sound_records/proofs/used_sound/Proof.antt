@@ -1,4 +1,4 @@
--- `records::used_sound` meets its contract. Assumes nothing.
+-- `sound_records::used_sound` meets its contract. Assumes nothing.
 use mathlib.Core.Path.{ap, _∙_}
 use mathlib.Core.List.{map}
 use native.Mathlib.Omega.{arith}
