@@ -106,9 +106,8 @@ uint64_t dorrivand_new(const uint32_t *store, size_t store_length, uint32_t *tab
 
 /* Work: opens a permanent file by name, with work permit: the user's own record of that name first, then a public one.
  * The work pointer stands at the end: to read or change what is there already, reset first.
- * Another's private file looks absent.
- * Refusals: 20; 1; 2 (entry above 3); 3; 15; 11 when neither is there; 13 for another's public file; 14 if any opening of the
- * record exists. */
+ * Refusals: 20; 1; 2 (entry above 3); 3; 15; 11 when neither is there, for another's private file looks absent; 13 for
+ * another's public file; 14 if any opening of the record exists. */
 uint64_t dorrivand_work(const uint32_t *store, size_t store_length, uint32_t *tables, size_t tables_length,
                         uint32_t user, uint32_t entry, const uint8_t *name, size_t name_length);
 
