@@ -2,24 +2,21 @@
 use Prim.Native.Nat.{ℕ}
 use mathlib.Core.Path.{subst}
 use mathlib.Core.Bool.{Bool, true, false, not, _&&_, cond}
-use mathlib.Core.Option.{none}
 use lib.Dec.{eqb}
-use lib.ListN.{getD}
 use Rattle.combine.specs.Verdict.{Said, refused, done}
 use Rattle.combine.specs.Outcome.{Outcome}
 use Rattle.combine.specs.Run.{Ran, runOver}
-use Rattle.combine.specs.laws.Verdict.{Refuses, refuses-onDone}
+use Rattle.combine.specs.laws.Verdict.{Refuses}
 use Rattle.combine.specs.laws.Outcome.{settle-refuses}
 use Rattle.combine.specs.laws.Run.{run-stopped, admitted-stopped}
 use Rattle.rules.specs.Calls.{Request, Start, fresh, load, Question, save, count, Run, Call, starts, asks, on, runs}
-use Rattle.placing.specs.Sizes.{entryOf}
-use Rattle.rules.specs.Levels.{ruled, orBlank}
 use Rattle.rules.specs.Runs.{requestsOf, admission, runAnswer}
-use Rattle.rules.specs.laws.Refusals.{Not12, user-gate-spares, entry-gate-spares, start-gate-spares, image-gate-spares, ruled-spares, admission-spares}
+use Rattle.rules.specs.laws.Refusals.{Not12, user-gate-spares, start-gate-spares, image-gate-spares, ruled-spares, admission-spares}
 use Rattle.segments.specs.Deeds.{segmentLevel}
 use Rattle.cells.specs.Says.{houseOf}
-use Rattle.cells.specs.Outcomes.{Lent, soundLent, performed, requestOut, runOut, freeOut, freshOut, loadOut, saveOut, startOut, askOut, callOut, callRun}
+use Rattle.cells.specs.Outcomes.{Lent, soundLent, requestOut, runOut, freeOut, freshOut, loadOut, saveOut, startOut, askOut, callOut, callRun}
 use Rattle.demands.specs.Absent.{Never12}
+use Rattle.proof_absent.specs.Refused.{openAt, request-refuses}
 
 -- ---- each kind of call
 
@@ -35,13 +32,7 @@ ask-spares (count u) x = settle-refuses Not12 _ _ (user-gate-spares _ tt _ u)
 
 module _ (u e : ℕ) where
   request-spares : (r : Request) (x : Lent) → Refuses Not12 (requestOut r (x .store) (x .tables) u e .answer)
-  unfolding requestOut
-  request-spares r x =
-      let level = segmentLevel (x .store) in
-      let h = houseOf (x .tables) in
-      let there = getD (h .openings) (entryOf u e) none in
-      let does = performed (x .store) (x .tables) (entryOf u e) (orBlank level there) in
-      settle-refuses Not12 _ _ (entry-gate-spares _ (refuses-onDone Not12 does (ruled level r u h there) (ruled-spares level r u h there)) _ u e)
+  request-spares r x = request-refuses Not12 tt tt tt u e r x (ruled-spares (segmentLevel (x .store)) r u (houseOf (x .tables)) (openAt u e x))
 
   run-spares : (r : Run) (x : Lent) → Not12 (runOut r (x .store) (x .tables) u e .stop)
   unfolding runOut

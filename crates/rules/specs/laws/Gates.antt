@@ -6,6 +6,7 @@ use lib.Dec.{ltb}
 use borrow.Author.Tests.{le-ltb, ltb-false}
 use Rattle.placing.specs.Sizes.{greatestUser, greatestEntry}
 use Rattle.combine.specs.Verdict.{Verdict, refused, refuse_when_else_}
+use Rattle.combine.specs.laws.Verdict.{Refuses, refuses}
 use Rattle.rules.specs.Gates.{userGate, entryGate}
 
 module _ {S : Type 0} where
@@ -26,3 +27,8 @@ gate-related R both sound u e v w h = go sound (ltb greatestUser u) (ltb greates
     go true true b p q = both 1
     go true false true p q = both 2
     go true false false p q = h (ltb-false greatestUser u p) (ltb-false greatestEntry e q)
+
+-- what is so of every number by which a verdict may refuse, and of 20, 1 and 2, is so behind the gate
+pub gate-refuses : {S : Type 0} (P : ℕ → Type 0) → P 20 → P 1 → P 2 → (v : Verdict S) → Refuses P v → (sound : Bool) (u e : ℕ) → Refuses P (entryGate sound u e v)
+unfolding entryGate userGate
+gate-refuses P h20 h1 h2 v h sound u e = refuses P 20 _ _ h20 (refuses P 1 _ _ h1 (refuses P 2 _ _ h2 h))

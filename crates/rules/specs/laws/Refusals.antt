@@ -15,7 +15,8 @@ use Rattle.rules.specs.Headings.{Heading, Handle, Open, headOf, handleOf
 use Rattle.rules.specs.Effects.{used, Others}
 use Rattle.rules.specs.Access.{writeRule, nextRule, prevRule, newPointerRule, deletePointerRule, valueRule, renameRule, acting}
 use Rattle.rules.specs.Rules.{lookUp, openNew, openRecord, openOld, openWay, closeRule, rule}
-use Rattle.rules.specs.Gates.{userGate, entryGate, startGate, imageGate}
+use Rattle.rules.specs.Gates.{userGate, startGate, imageGate}
+use Rattle.rules.specs.laws.Gates.{gate-refuses}
 use Rattle.rules.specs.House.{House, othersOf}
 use Rattle.rules.specs.Levels.{Level, ruled, orBlank}
 use Rattle.rules.specs.Runs.{admits, admission}
@@ -33,10 +34,6 @@ module _ {S : Type 0} (v : Verdict S) (h : Refuses Not12 v) where
   pub user-gate-spares : (sound : Bool) (u : ℕ) → Refuses Not12 (userGate sound u v)
   unfolding userGate
   user-gate-spares sound u = spares 20 _ _ tt (spares 1 _ _ tt h)
-
-  pub entry-gate-spares : (sound : Bool) (u e : ℕ) → Refuses Not12 (entryGate sound u e v)
-  unfolding entryGate userGate
-  entry-gate-spares sound u e = spares 20 _ _ tt (spares 1 _ _ tt (spares 2 _ _ tt h))
 
   pub start-gate-spares : (fit : Bool) → Refuses Not12 (startGate fit v)
   unfolding startGate
@@ -110,4 +107,4 @@ admits-spares (fills p l) (some h) = spares 4 _ _ tt (spares 5 _ _ tt tt)
 pub admission-spares : {C B : Type 0} (sound : Bool) (r : Run) (u e : ℕ) (h : House C B) → Refuses Not12 (admission sound r u e h)
 admission-spares sound r u e h =
     let there = handleOf (getD (h .openings) (entryOf u e) none) in
-    entry-gate-spares (admits r there) (admits-spares r there) sound u e
+    gate-refuses Not12 tt tt tt (admits r there) (admits-spares r there) sound u e
