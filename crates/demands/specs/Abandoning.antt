@@ -2,16 +2,16 @@
 -- its calls." Assumes nothing.
 use Prim.Native.Nat.{ℕ}
 use mathlib.Core.Path.{_≡_}
-use mathlib.Core.Bool.{Bool, true, false, not, _&&_, _||_, cond}
+use mathlib.Core.Bool.{Bool, true, false, not, _&&_, _||_}
 use mathlib.Core.List.{List, [], _∷_, _++_, map}
 use lib.Dec.{T, eqb}
 use Rattle.combine.specs.Verdict.{Said, done, refused, isDone}
-use Rattle.rules.specs.Calls.{Way, Request, opens, closes, abandons, uses, fresh, load, save, count, Call, starts, asks, on, runs}
+use Rattle.rules.specs.Calls.{Way, Request, opens, closes, abandons, uses, fresh, load, Call, starts, asks, on, runs}
 use Rattle.segments.specs.Free.{freeCount}
 use Rattle.cells.specs.Says.{houseOf}
-use Rattle.cells.specs.Outcomes.{Lent, callRun}
-use Rattle.model.specs.Step.{Report}
-use Rattle.demands.specs.History.{outcomeOn, afterCall, viewOn, toldAll, final}
+use Rattle.cells.specs.Outcomes.{Lent}
+use Rattle.demands.specs.History.{outcomeOn, afterCall, viewOn, toldAll, final, those, Each}
+use Rattle.demands.specs.Hearing.{Fate, remains, struck, leftFate, fateIn, heard, answeredAs}
 
 -- ---- calls between an opening of user u by entry e and its abandonment
 
@@ -40,19 +40,12 @@ abbrev pub crowded : Said → Bool
 crowded (done n) = false
 crowded (refused n) = eqb n 9 || eqb n 14
 
--- a call's answer, but of a run that is stopped the refusal that stops it: "a run stopped by 9 counts as answered "no room""
-abbrev pub answeredAs : Call → Lent → Said
-answeredAs c x =
-    let n = callRun c (x .store) (x .tables) .stop in
-    cond (eqb n 0) (outcomeOn c x .answer) (refused n)
-
 -- the opening goes on; and a call that is not the user's on the entry is not answered 9 or 14
 abbrev pub quiet : ℕ → ℕ → Call → Said → Bool
 quiet u e c a = not (ends u e c && isDone a) && (isOn u e c || not (crowded a))
 
 abbrev pub Quiet : ℕ → ℕ → List Call → Lent → Type 0
-Quiet u e [] x = Unit {0}
-Quiet u e (c ∷ cs) x = T (quiet u e c (answeredAs c x)) × Quiet u e cs (afterCall c x)
+Quiet u e = Each (λ c x. T (quiet u e c (answeredAs c x)))
 
 -- a load that is done reads what cells freed segments were left with, and these may differ
 abbrev pub isLoad : Call → Bool
@@ -63,39 +56,19 @@ isLoad (on v d r) = false
 isLoad (runs v d r) = false
 
 abbrev pub NoLoad : List Call → Lent → Type 0
-NoLoad [] x = Unit {0}
-NoLoad (c ∷ cs) x = T (not (isLoad c && isDone (outcomeOn c x .answer))) × NoLoad cs (afterCall c x)
+NoLoad = Each (λ c x. T (not (isLoad c && isDone (outcomeOn c x .answer))))
 
--- ---- what becomes of a call when the opening is struck out: its answer stays; it counts free segments between, and where it is done its
--- number may differ; it is struck out itself
+-- ---- what becomes of a call when the opening is struck out
 
-pub data Fate : Type 0 where
-  remains counts struck : Fate
-
-abbrev pub isCount : Call → Bool
-isCount (starts c) = false
-isCount (asks (save img)) = false
-isCount (asks (count u)) = true
-isCount (on v d r) = false
-isCount (runs v d r) = false
-
-abbrev pub leftFate : Call → Fate
-leftFate c = cond (isCount c) counts remains
+-- it is not the user's on the entry
+abbrev pub isElsewhere : ℕ → ℕ → Call → Bool
+isElsewhere u e c = not (isOn u e c)
 
 abbrev pub betweenFate : ℕ → ℕ → Call → Fate
-betweenFate u e c = cond (isOn u e c) struck (leftFate c)
+betweenFate u e = fateIn (isElsewhere u e) leftFate
 
 abbrev pub strike : ℕ → ℕ → List Call → List Call
-strike u e [] = []
-strike u e (c ∷ cs) = cond (isOn u e c) (strike u e cs) (c ∷ strike u e cs)
-
--- what is told of the calls that stay, in order: of the counts between only the refused ones
-abbrev pub heard : List Fate → List Report → List Report
-heard [] l = []
-heard (f ∷ fs) [] = []
-heard (remains ∷ fs) (a ∷ l) = a ∷ heard fs l
-heard (counts ∷ fs) (a ∷ l) = cond (isDone (a .answer)) (heard fs l) (a ∷ heard fs l)
-heard (struck ∷ fs) (a ∷ l) = heard fs l
+strike u e = those (isElsewhere u e)
 
 -- ---- a history in which an opening is abandoned
 

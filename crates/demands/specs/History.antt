@@ -1,6 +1,7 @@
 -- "A history is a list of calls with the numbers and lists lent to them, an image lent to be read among these; each call gets the
 -- store and tables as the one before left them, and nobody writes there between." Assumes nothing.
 use Prim.Native.Nat.{ℕ}
+use mathlib.Core.Bool.{Bool, cond}
 use mathlib.Core.Option.{Option}
 use mathlib.Core.List.{List, [], _∷_}
 use Rattle.combine.specs.Outcome.{Outcome}
@@ -33,6 +34,16 @@ toldAll (c ∷ cs) x = toldOf c x ∷ toldAll cs (afterCall c x)
 abbrev pub final : List Call → Lent → Lent
 final [] x = x
 final (c ∷ cs) x = final cs (afterCall c x)
+
+-- its calls that pass a test
+abbrev pub those : (Call → Bool) → List Call → List Call
+those f [] = []
+those f (c ∷ cs) = cond (f c) (c ∷ those f cs) (those f cs)
+
+-- every call meets a premise, on the cells that it finds
+abbrev pub Each : (Call → Lent → Type 0) → List Call → Lent → Type 0
+Each P [] x = Unit {0}
+Each P (c ∷ cs) x = P c x × Each P cs (afterCall c x)
 
 -- ---- the same history as users know it: with each call goes what the lent images hold over the store of that time
 

@@ -13,7 +13,8 @@ use Rattle.rules.specs.Runs.{noRun}
 use Rattle.cells.specs.Outcomes.{Lent}
 use Rattle.model.specs.Step.{Report}
 use Rattle.demands.specs.History.{toldAll}
-use Rattle.demands.specs.Abandoning.{heard, Story, whole, rest, wholeFates, restFates, NoTrace}
+use Rattle.demands.specs.Hearing.{heard}
+use Rattle.demands.specs.Abandoning.{Story, whole, rest, wholeFates, restFates, NoTrace}
 use Rattle.examples.specs.Examples.{answersOn, runsOn}
 use Rattle.proof_examples.specs.Fresh.{nothingThere}
 use Rattle.proof_examples.specs.Known.{noLoadb, answersKnown, answers-known, runsKnown, runs-known}

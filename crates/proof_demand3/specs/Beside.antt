@@ -22,7 +22,8 @@ use Rattle.model.specs.View.{viewHouse, view, filesIn}
 use Rattle.proof_calls_sound.specs.Keeps.{keeps-sound}
 use Rattle.demands.specs.History.{outcomeOn, afterCall, toldOf, viewOn}
 use Rattle.demands.specs.Demands.{Sound}
-use Rattle.demands.specs.Abandoning.{isOn, ending, answeredAs, quiet, isLoad}
+use Rattle.demands.specs.Hearing.{answeredAs}
+use Rattle.demands.specs.Abandoning.{isOn, ending, quiet, isLoad}
 use Rattle.proof_demand2.specs.Demand2.{told-known, answer-known, after-known}
 use Rattle.proof_demand3.specs.Eased.{emptied}
 use Rattle.proof_demand3.specs.Own.{request-own, abandoned}

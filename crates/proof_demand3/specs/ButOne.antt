@@ -8,7 +8,8 @@ use Rattle.combine.specs.laws.Tests.{and-intro}
 use Rattle.rules.specs.Calls.{Call}
 use Rattle.cells.specs.Outcomes.{Lent, callRun}
 use Rattle.demands.specs.History.{outcomeOn, afterCall, final}
-use Rattle.demands.specs.Abandoning.{isOn, ends, crowded, answeredAs, quiet, Quiet, NoLoad, Story, openingCall, abandoning, Abandoned}
+use Rattle.demands.specs.Hearing.{answeredAs}
+use Rattle.demands.specs.Abandoning.{isOn, ends, crowded, quiet, Quiet, NoLoad, Story, openingCall, abandoning, Abandoned}
 
 -- ---- but that other calls between may be answered n: 9, "no room", or 14, "not now"
 

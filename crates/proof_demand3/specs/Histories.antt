@@ -1,36 +1,56 @@
--- The calls between the opening and its abandonment, the abandonment, and the calls after, beside the same without the opening. Assumes nothing.
+-- The calls between the opening and its abandonment, and the calls after, beside the same without the opening. Assumes nothing.
 use Prim.Native.Nat.{ℕ}
-use mathlib.Core.Path.{_≡_, refl, ap₂, subst}
-use mathlib.Core.Logic.{inl, inr}
+use mathlib.Core.Path.{_≡_, refl, sym, ap, _∙_, subst}
 use mathlib.Core.Bool.{Bool, true, false, not, _&&_, cond}
-use mathlib.Core.List.{List, [], _∷_, _++_, map}
+use mathlib.Core.List.{List, [], _∷_, map}
 use lib.Dec.{T, ltb, eqb, eqb→eq, nltb→le}
 use Rattle.combine.specs.laws.Below.{not-both}
+use Rattle.combine.specs.laws.Tests.{and-first, and-second}
 use Rattle.combine.specs.Verdict.{isDone}
 use Rattle.placing.specs.Sizes.{entryOf}
-use Rattle.rules.specs.Calls.{Request, abandons, Run, Call, starts, asks, on, runs}
+use Rattle.rules.specs.Calls.{Request, Run, Call, starts, asks, on, runs}
 use Rattle.cells.specs.Outcomes.{Lent}
 use Rattle.model.specs.Step.{Report}
 use Rattle.proof_calls_sound.specs.Keeps.{keeps-sound}
-use Rattle.combine.specs.laws.Tests.{and-first, and-second}
-use Rattle.demands.specs.History.{outcomeOn, afterCall, toldOf, viewOn, toldAll, final}
+use Rattle.demands.specs.History.{outcomeOn, afterCall, viewOn, final, those, Each, toldAll}
+use Rattle.demands.specs.Hearing.{Fate, remains, leftFate, fateIn, hear, heard, heardOf, answeredAs}
 use Rattle.demands.specs.Demands.{Sound}
-use Rattle.demands.specs.Abandoning.{isOn, ending, answeredAs, quiet, Quiet, NoLoad, Fate, remains, counts, struck, isCount, leftFate, betweenFate, strike, heard, allStay}
-use Rattle.proof_demand3.specs.Steps.{ToldAlike, goes-on}
-use Rattle.proof_demand3.specs.Beside.{Beside, another-beside, another-told, own-beside, own-run-beside, abandoned-seen, later-told, later-seen}
+use Rattle.demands.specs.Abandoning.{isOn, ending, quiet, Quiet, isLoad, NoLoad, isElsewhere, betweenFate, strike}
+use Rattle.demands.specs.laws.Woven.{Unwinds, woven}
+use Rattle.proof_demand3.specs.Steps.{goes-on}
+use Rattle.proof_demand3.specs.Beside.{Beside, another-beside, another-told, own-beside, own-run-beside, later-told, later-seen}
 
--- ---- after the abandonment users know the same
+-- ---- the calls that pass, in a history of their own
 
--- the same is told, and users know the same at the end
-pub record Alike (cs ds : List Call) (x y : Lent) (f g : List Fate) : Type 0 where
-  pub told : heard f (toldAll cs x) ≡ heard g (toldAll ds y)
-  pub seen : viewOn (final cs x) ≡ viewOn (final ds y)
+module _ (f : Call → Bool) where
+  those-those : (cs : List Call) → those f (those f cs) ≡ those f cs
+  those-those [] = refl
+  those-those (c ∷ cs) = go (f c) refl (those-those cs)
+    where
+      go : (b : Bool) → f c ≡ b → those f (those f cs) ≡ those f cs → those f (cond b (c ∷ those f cs) (those f cs)) ≡ cond b (c ∷ those f cs) (those f cs)
+      go true o q = rw o (ap (λ (l : List Call). c ∷ l) q)
+      go false o q = q
 
-later-alike : (cs : List Call) (x y : Lent) → Sound x → Sound y → viewOn x ≡ viewOn y → NoLoad cs x → Alike cs cs x y (allStay cs) (allStay cs)
-later-alike [] x y sx sy e n = record { told = refl; seen = e }
-later-alike (c ∷ cs) x y sx sy e n =
-    let a = later-alike cs (afterCall c x) (afterCall c y) (keeps-sound c x sx) (keeps-sound c y sy) (later-seen x y sx sy e c (n .0)) (n .1) in
-    record { told = ap₂ {C = List Report} (λ r l. r ∷ l) (later-told x y sx sy e c (n .0)) (a .told); seen = a .seen }
+  each-passes : (cs : List Call) (x : Lent) → Each (λ c y. T (f c)) (those f cs) x
+  each-passes [] x = tt
+  each-passes (c ∷ cs) x = go (f c) refl (each-passes cs)
+    where
+      go : (b : Bool) → f c ≡ b → ((y : Lent) → Each (λ c y. T (f c)) (those f cs) y) → Each (λ c y. T (f c)) (cond b (c ∷ those f cs) (those f cs)) x
+      go true o q = (rw o tt, q (afterCall c x))
+      go false o q = q x
+
+  fates-of-those : (g : Call → Fate) (cs : List Call) → map (fateIn f g) (those f cs) ≡ map g (those f cs)
+  fates-of-those g [] = refl
+  fates-of-those g (c ∷ cs) = go (f c) refl (fates-of-those g cs)
+    where
+      go : (b : Bool) → f c ≡ b → map (fateIn f g) (those f cs) ≡ map g (those f cs)
+          → map (fateIn f g) (cond b (c ∷ those f cs) (those f cs)) ≡ map g (cond b (c ∷ those f cs) (those f cs))
+      go true o q = rw o (ap (λ (l : List Fate). g c ∷ l) q)
+      go false o q = q
+
+each-any : (cs : List Call) (x : Lent) → Each (λ c y. Unit {0}) cs x
+each-any [] x = tt
+each-any (c ∷ cs) x = (tt, each-any cs (afterCall c x))
 
 -- ---- a call by the entry
 
@@ -56,45 +76,59 @@ own-call u e x y (runs v d r) b o q =
     let t : T (eqb u v && eqb e d) = rw o tt in
     own-run-at u e v d x y r b (eqb→eq u v (and-first (eqb u v) (eqb e d) t)) (eqb→eq e d (and-second (eqb u v) (eqb e d) t))
 
--- ---- the calls between, with the abandonment and the calls after
+-- ---- between the opening and its abandonment
 
--- what is told of a call that may count
-told-left : (c : Call) (a b : Report) (f g : List Fate) (k l : List Report) → ToldAlike c a b → heard f k ≡ heard g l
-    → heard (leftFate c ∷ f) (a ∷ k) ≡ heard (leftFate c ∷ g) (b ∷ l)
-told-left c a b f g k l (inl p) e = go (isCount c)
-  where
-    go : (n : Bool) → heard (cond n counts remains ∷ f) (a ∷ k) ≡ heard (cond n counts remains ∷ g) (b ∷ l)
-    go true = λ i. cond (isDone (p i .answer)) (e i) (p i ∷ e i)
-    go false = ap₂ {C = List Report} (λ r l. r ∷ l) p e
-told-left c a b f g k l (inr d) e = rw (d .0, d .1, d .2) e
+not-true : (b : Bool) → not b ≡ true → b ≡ false
+not-true true q = absurd (not-both q refl)
+not-true false q = refl
 
-module _ (u e : ℕ) (user : T (not (ltb 7 u))) (entry : T (not (ltb 3 e))) (later : List Call) where
-  abbrev withIt : List Call → List Call
-  withIt cs = cs ++ on u e abandons ∷ later
+not-false : (b : Bool) → not b ≡ false → b ≡ true
+not-false true q = refl
+not-false false q = absurd (not-both refl q)
 
-  abbrev withFates : List Call → List Fate
-  withFates cs = map (betweenFate u e) cs ++ struck ∷ allStay later
+module _ (u e : ℕ) (entry : T (not (ltb 3 e))) where
+  between : Unwinds (isElsewhere u e) leftFate (λ c x. T (quiet u e c (answeredAs c x))) (λ c y. T (isElsewhere u e c)) (Beside (entryOf u e))
+  between = record {
+    left = λ c x y o q b. own-call u e x y c b (not-false (isOn u e c) o) q;
+    right = λ c x y o q b. absurd (subst (λ (t : Bool). T t) o q);
+    both = λ c x y o q t b. another-beside u e x y b c (nltb→le 3 e entry) (not-true (isOn u e c) o) q;
+    told = λ c x y o q t b. another-told u e x y b c (nltb→le 3 e entry) (not-true (isOn u e c) o) q;
+  }
 
-  abbrev withoutFates : List Call → List Fate
-  withoutFates cs = map leftFate cs ++ allStay later
+  -- the calls that are left, beside all
+  pub record BetweenAlike (cs : List Call) (x y : Lent) : Type 0 where
+    pub told : heardOf (betweenFate u e) cs x ≡ heardOf leftFate (strike u e cs) y
+    pub after : Beside (entryOf u e) (final cs x) (final (strike u e cs) y)
 
-  -- c before cs: `own` says that it is struck out
-  one-more : (c : Call) (cs ds : List Call) (x y : Lent) (own : Bool) → isOn u e c ≡ own → Beside (entryOf u e) x y → T (quiet u e c (answeredAs c x))
-      → ((z : Lent) → Beside (entryOf u e) (afterCall c x) z → Alike (withIt cs) (ds ++ later) (afterCall c x) z (withFates cs) (withoutFates ds))
-      → Alike (c ∷ withIt cs) (cond own ds (c ∷ ds) ++ later) x y (cond own struck (leftFate c) ∷ withFates cs) (withoutFates (cond own ds (c ∷ ds)))
-  one-more c cs ds x y true o b q h =
-      let a = h y (own-call u e x y c b o q) in
-      record { told = a .told; seen = a .seen }
-  one-more c cs ds x y false o b q h =
-      let a = h (afterCall c y) (another-beside u e x y b c (nltb→le 3 e entry) o q) in
-      record {
-        told = told-left c (toldOf c x) (toldOf c y) (withFates cs) (withoutFates ds) _ _ (another-told u e x y b c (nltb→le 3 e entry) o q) (a .told);
-        seen = a .seen;
-      }
+  pub between-alike : (cs : List Call) (x y : Lent) → Beside (entryOf u e) x y → Quiet u e cs x → BetweenAlike cs x y
+  between-alike cs x y b q =
+      let a = woven _ _ _ _ _ between cs (strike u e cs) x y (sym (those-those (isElsewhere u e) cs)) q (each-passes (isElsewhere u e) cs y) b in
+      record { told = a .told ∙ ap (λ (l : List Fate). heard l (toldAll (strike u e cs) y)) (fates-of-those (isElsewhere u e) leftFate cs); after = a .after }
 
-  pub between-alike : (cs : List Call) (x y : Lent) → Beside (entryOf u e) x y → Quiet u e cs x → NoLoad later (final (cs ++ on u e abandons ∷ []) x)
-      → Alike (withIt cs) (strike u e cs ++ later) x y (withFates cs) (withoutFates (strike u e cs))
-  between-alike [] x y b q n =
-      let a = later-alike later (afterCall (on u e abandons) x) y (keeps-sound (on u e abandons) x (b .with)) (b .without) (abandoned-seen u e x y b user entry) n in
-      record { told = a .told; seen = a .seen }
-  between-alike (c ∷ cs) x y b q n = one-more c cs (strike u e cs) x y (isOn u e c) refl b (q .0) (λ z d. between-alike cs (afterCall c x) z d (q .1) n)
+-- ---- after the abandonment users know the same
+
+pub record KnownSame (x y : Lent) : Type 0 where
+  pub here : Sound x
+  pub there : Sound y
+  pub seen : viewOn x ≡ viewOn y
+
+later : Unwinds (λ c. true) (λ c. remains) (λ c x. T (not (isLoad c && isDone (outcomeOn c x .answer)))) (λ c y. Unit {0}) KnownSame
+later = record {
+  left = λ c x y o n k. absurd (not-both refl o);
+  right = λ c x y o n k. absurd (not-both refl o);
+  both = λ c x y o n t k. record {
+    here = keeps-sound c x (k .here);
+    there = keeps-sound c y (k .there);
+    seen = later-seen x y (k .here) (k .there) (k .seen) c n;
+  };
+  told = λ c x y o n t k. ap (hear remains) (later-told x y (k .here) (k .there) (k .seen) c n);
+}
+
+pub record LaterAlike (cs : List Call) (x y : Lent) : Type 0 where
+  pub told : heardOf (λ c. remains) cs x ≡ heardOf (λ c. remains) cs y
+  pub after : KnownSame (final cs x) (final cs y)
+
+pub later-alike : (cs : List Call) (x y : Lent) → KnownSame x y → NoLoad cs x → LaterAlike cs x y
+later-alike cs x y k n =
+    let a = woven _ _ _ _ _ later cs cs x y refl n (each-any cs y) k in
+    record { told = a .told; after = a .after }

@@ -2,7 +2,6 @@
 -- what freed segments were left with. Assumes nothing.
 use Prim.Native.Nat.{ℕ, _≤_}
 use mathlib.Core.Path.{_≡_, refl, sym, ap, _∙_, subst}
-use mathlib.Core.Logic.{_⊎_, inl, inr}
 use mathlib.Core.Bool.{Bool, true, false, not, _&&_, _||_, cond}
 use mathlib.Core.Option.{Option, none, some}
 use mathlib.Core.List.{List}
@@ -20,7 +19,8 @@ use Rattle.rules.specs.House.{closedDown}
 use Rattle.rules.specs.Runs.{runAnswer, runTold, noRun}
 use Rattle.model.specs.Model.{Files, Model, free}
 use Rattle.model.specs.Step.{Report, report, askModel, runOnModel, step, stepRun, stepTold}
-use Rattle.demands.specs.Abandoning.{isOn, ends, crowded, quiet, isLoad, isCount}
+use Rattle.demands.specs.Hearing.{leftFate, hear}
+use Rattle.demands.specs.Abandoning.{isOn, ends, crowded, quiet, isLoad}
 use Rattle.combine.specs.laws.Tests.{and-first, and-second}
 use Rattle.proof_demand3.specs.Eased.{emptied}
 use Rattle.proof_demand3.specs.Another.{carried, request-another}
@@ -81,9 +81,9 @@ uncrowded u e c a other q = go (isOn u e c) other (and-second (not (ends u e c &
     go true n t = absurd (not-both refl n)
     go false n t = t
 
--- the same is told; or both count, and are done
+-- the same is heard
 abbrev pub ToldAlike : Call → Report → Report → Type 0
-ToldAlike c a b = (a ≡ b) ⊎ ((isCount c ≡ true) × (isDone (a .answer) ≡ true) × (isDone (b .answer) ≡ true))
+ToldAlike c a b = hear (leftFate c) a ≡ hear (leftFate c) b
 
 -- a count of an unknown user is refused, whatever is free
 count-told : (u : ℕ) (m n : Model) → ToldAlike (asks (count u)) (record { answer = askModel (count u) m; image = none; run = noRun }) (record { answer = askModel (count u) n; image = none; run = noRun })
@@ -94,8 +94,8 @@ count-told u m n = go (ltb greatestUser u)
     told b k = record { answer = refuse 1 when b else done k; image = none; run = noRun }
 
     go : (b : Bool) → ToldAlike (asks (count u)) (told b (free (m .house))) (told b (free (n .house)))
-    go true = inl refl
-    go false = inr (refl, refl, refl)
+    go true = refl
+    go false = refl
 
 -- afterwards the entry is emptied, and the same is told, but for the numbers of counts
 pub record Carried (i : ℕ) (c : Call) (f g : Look) (m : Model) : Type 0 where
@@ -105,7 +105,7 @@ pub record Carried (i : ℕ) (c : Call) (f g : Look) (m : Model) : Type 0 where
 whole-carried : (i : ℕ) (c : Call) (f g : Look) (m : Model) → step g c (emptied i m) ≡ carried i (step f c m) → stepRun c (emptied i m) ≡ stepRun c m → Carried i c f g m
 whole-carried i c f g m e same = record {
   after = ap (λ (o : Outcome Model). o .after) e;
-  told = inl (sym (λ k. report c (e k .answer) (some (closedDown (m .house))) (same k)));
+  told = sym (λ k. hear (leftFate c) (report c (e k .answer) (some (closedDown (m .house))) (same k)));
 }
 
 run-carried : (i v d : ℕ) (r : Run) (f g : Look) (m : Model) → runOnModel r v d (emptied i m) ≡ carriedRun i (runOnModel r v d m) → Carried i (runs v d r) f g m
