@@ -11,6 +11,7 @@ use lib.ListN.{getD, set}
 use lib.Seq.{set-comm, getD-set-other}
 use Rattle.combine.specs.Verdict.{Verdict, refused, done, onDone}
 use Rattle.combine.specs.Outcome.{Outcome, outcomeOf, settle}
+use Rattle.combine.specs.laws.Verdict.{Refuses}
 use Rattle.placing.specs.Sizes.{greatestEntry, entryOf}
 use Rattle.rules.specs.Calls.{Request}
 use Rattle.rules.specs.Headings.{Open, headOf, handleOf}
@@ -24,7 +25,7 @@ use Rattle.model.specs.Step.{performOnModel, requestOnModel}
 use Rattle.demands.specs.Abandoning.{crowded}
 use Rattle.combine.specs.laws.Tests.{and-intro}
 use Rattle.proof_demand3.specs.Eased.{emptiedHouse, emptied, othersIn, eased}
-use Rattle.proof_demand3.specs.Calm.{calm, rule-eased}
+use Rattle.proof_demand3.specs.Calm.{Calm, rule-eased}
 
 -- the same answer, and the entry is emptied afterwards
 abbrev pub carried : ℕ → Outcome Model → Outcome Model
@@ -55,8 +56,8 @@ module _ (i j : ℕ) (apart : j ≢ i) (m : Model) where
       ∙ ap (λ (l : List (Option (Open Body))). outcomeOf (done (c .answer)) (model (m .cells) (house (m .house .segments) (refiled (m .house .records) (c .filing)) l)))
       (set-comm (m .house .openings) i j none (c .entry) (λ e. apart (sym e)))
 
-calm-settled : (m : Model) (g : Effect → ℕ × Model) (v : Verdict Effect) → T (not (crowded (settle m (onDone g v) .answer))) → T (calm v)
-unfolding settle calm
+calm-settled : (m : Model) (g : Effect → ℕ × Model) (v : Verdict Effect) → T (not (crowded (settle m (onDone g v) .answer))) → Refuses Calm v
+unfolding settle
 calm-settled m g (refused n) t = t
 calm-settled m g (done f) t = tt
 
@@ -98,6 +99,6 @@ request-another u e m v d r le other t = gate-another i m v d _ _ inside t
         let apart = entries-apart u e v d le other hd in
         ap (λ (x : Option (Open Body)). settle (emptied i m) (judged (emptied i m) j r v x)) (getD-set-other (m .house .openings) i j none none apart)
         ∙ ap (λ (w : Verdict Effect). settle (emptied i m) (onDone (performOnModel (emptied i m) j (orBlank modelLevel mine)) w))
-        (rule-eased r v (map headOf (m .house .records)) (handleOf mine) (modelLevel .takes (m .house) (orBlank modelLevel mine))
-        (othersIn (m .house)) (othersIn (emptiedHouse i (m .house))) (eased i (m .house)) (calm-settled m _ _ calmly))
+        (rule-eased v (othersIn (m .house)) (othersIn (emptiedHouse i (m .house))) (eased i (m .house)) r
+        (map headOf (m .house .records)) (handleOf mine) (modelLevel .takes (m .house) (orBlank modelLevel mine)) (calm-settled m (performOnModel m j (orBlank modelLevel mine)) (ruled modelLevel r v (m .house) mine) calmly))
         ∙ settle-another i j apart m (orBlank modelLevel mine) (ruled modelLevel r v (m .house) mine)

@@ -4,13 +4,14 @@ use Prim.Native.Nat.{ℕ, _≤_}
 use mathlib.Core.Path.{_≡_, refl, sym, ap, _∙_, subst}
 use mathlib.Core.Bool.{true, not, _&&_}
 use mathlib.Core.Option.{Option, none}
-use mathlib.Core.List.{List, [], _∷_, map}
+use mathlib.Core.List.{List, map}
 use lib.Dec.{T, eqb}
 use lib.Seq.{getD-set-other}
 use Rattle.combine.specs.Verdict.{Said, refused, done}
-use Rattle.combine.specs.Outcome.{Outcome, outcomeOf}
+use Rattle.combine.specs.Outcome.{Outcome}
 use Rattle.combine.specs.Run.{Ran, ran, runOver, admitted}
-use Rattle.combine.specs.laws.Run.{behind, run-stops, run-first, run-keeps, admitted-keeps, run-map}
+use Rattle.combine.specs.laws.Verdict.{Refuses}
+use Rattle.combine.specs.laws.Run.{run-related, run-keeps, admitted-keeps, run-map}
 use Rattle.placing.specs.Sizes.{greatestEntry, entryOf}
 use Rattle.rules.specs.Calls.{Request, Act, uses, write, next, Run, writes, fills}
 use Rattle.rules.specs.Headings.{Open, handleOf}
@@ -20,6 +21,7 @@ use Rattle.model.specs.Model.{Body, Files, Model}
 use Rattle.model.specs.Step.{requestOnModel, runOnModel}
 use Rattle.demands.specs.Abandoning.{crowded}
 use Rattle.proof_demand3.specs.Eased.{emptiedHouse, emptied}
+use Rattle.proof_demand3.specs.Calm.{Calm}
 use Rattle.proof_demand3.specs.Another.{entries-apart, request-another}
 use Rattle.proof_demand3.specs.Own.{request-own}
 
@@ -40,26 +42,19 @@ module _ (u e v d : ℕ) (le : e ≤ greatestEntry) (other : T (not (eqb u v && 
   abbrev call : Request → Model → Outcome Model
   call q m = requestOnModel q v d m
 
-  calls-another : (l : List Request) (m : Model) → Unstopped (runOver call l m) → runOver call l (emptied i m) ≡ carriedRun i (runOver call l m)
-  unfolding runOver behind
-  calls-another [] m t = refl
-  calls-another (q ∷ l) m t = go (call q m .answer) refl (λ s. calls-another l (call q m .after) s)
+  -- the one state is the other with the entry emptied
+  abbrev Emptied : Model → Model → Type 0
+  Emptied m n = n ≡ emptied i m
+
+  one-another : (q : Request) (m n : Model) → Emptied m n → Refuses Calm (call q m .answer) → Refuses (λ k. Unit {0}) (call q n .answer)
+      → (call q m .answer ≡ call q n .answer) × Emptied (call q m .after) (call q n .after)
+  one-another q m n s c t =
+      let o = ap (call q) s ∙ request-another u e m v d q le other (calm-said (call q m .answer) c) in
+      (sym (ap (λ (o : Outcome Model). o .answer) o), ap (λ (o : Outcome Model). o .after) o)
     where
-      afterFirst : Model
-      afterFirst = call q m .after
-
-      first : (a : Said) → call q m .answer ≡ a → T (not (crowded a)) → call q (emptied i m) ≡ outcomeOf a (emptied i afterFirst)
-      first a p calmly =
-          request-another u e m v d q le other (subst (λ (b : Said). T (not (crowded b))) (sym p) calmly) ∙ ap (λ (b : Said). outcomeOf b (emptied i afterFirst)) p
-
-      go : (a : Said) → call q m .answer ≡ a → (Unstopped (runOver call l afterFirst) → runOver call l (emptied i afterFirst) ≡ carriedRun i (runOver call l afterFirst))
-          → runOver call (q ∷ l) (emptied i m) ≡ carriedRun i (runOver call (q ∷ l) m)
-      go (refused n) p later =
-          let stops = run-stops call q l n m afterFirst (ap (λ (b : Said). outcomeOf b afterFirst) p) in
-          run-stops call q l n (emptied i m) (emptied i afterFirst) (first (refused n) p (subst Unstopped stops t)) ∙ sym (ap (carriedRun i) stops)
-      go (done k) p later =
-          let goes = run-first call q l k m afterFirst (ap (λ (b : Said). outcomeOf b afterFirst) p) in
-          run-first call q l k (emptied i m) (emptied i afterFirst) (first (done k) p tt) ∙ ap (behind (k ∷ [])) (later (subst Unstopped goes t)) ∙ sym (ap (carriedRun i) goes)
+      calm-said : (a : Said) → Refuses Calm a → T (not (crowded a))
+      calm-said (refused k) t = t
+      calm-said (done k) t = tt
 
   -- what is judged before the first call
   admission-another : (r : Run) (h : Files) → admission true r v d (emptiedHouse i h) ≡ admission true r v d h
@@ -75,7 +70,9 @@ module _ (u e v d : ℕ) (le : e ≤ greatestEntry) (other : T (not (eqb u v && 
       go : (a : Said) → Unstopped (admitted m a (runOver call (requestsOf r) m))
           → admitted (emptied i m) a (runOver call (requestsOf r) (emptied i m)) ≡ carriedRun i (admitted m a (runOver call (requestsOf r) m))
       go (refused n) t = refl
-      go (done k) t = calls-another (requestsOf r) m t
+      go (done k) t =
+          let s = run-related Emptied call call Calm (λ k. Unit {0}) one-another (requestsOf r) m (emptied i m) refl t tt in
+          λ j. ran (sym (s .many) j) (sym (s .stop) j) (sym (s .told) j) (s .after j)
 
 -- ---- by the entry itself
 

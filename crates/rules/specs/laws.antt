@@ -3,3 +3,4 @@ pub mod Gates
 pub mod Opened
 pub mod Readable
 pub mod Refusals
+pub mod Acts

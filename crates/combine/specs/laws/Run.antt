@@ -1,7 +1,7 @@
 -- Laws of combine/specs/Run.antt. Assumes nothing.
 use Prim.Native.Nat.{ℕ, suc, _+_, _<_}
 use mathlib.Core.Path.{_≡_, refl, sym, ap, _∙_, subst}
-use mathlib.Core.Bool.{false}
+use mathlib.Core.Bool.{true, false}
 use mathlib.Core.List.{List, [], _∷_, _++_, map, append-assoc}
 use native.Mathlib.Nat.{zero-add}
 use native.Mathlib.Omega.{arith}
@@ -9,6 +9,7 @@ use lib.ListN.{length, getD, length-append}
 use Rattle.combine.specs.Lists.{tab}
 use Rattle.combine.specs.Verdict.{Said, refused, done, isDone}
 use Rattle.combine.specs.Outcome.{Outcome, outcomeOf}
+use Rattle.combine.specs.laws.Below.{not-both}
 use Rattle.combine.specs.laws.Verdict.{Refuses}
 use Rattle.combine.specs.Run.{Ran, ran, onwards, runOver, admitted}
 
@@ -113,35 +114,78 @@ run-map f call [] x = refl
 run-map f call (a ∷ l) x =
     ap (λ (r : Ran _). onwards (call (f a) x .answer) (call (f a) x .after) r) (run-map f call l (call (f a) x .after))
 
--- ---- the same calls on two kinds of state: view x is what x is seen as
+-- ---- the same calls on two kinds of state, which R relates
+
+module _ {S M : Type 0} (R : S → M → Type 0) where
+  pub record Related (r : Ran S) (q : Ran M) : Type 0 where
+    pub many : r .many ≡ q .many
+    pub stop : r .stop ≡ q .stop
+    pub told : r .told ≡ q .told
+    pub after : R (r .after) (q .after)
+
+  pub admitted-related : (x : S) (y : M) (v : Said) (r : Ran S) (q : Ran M) → R x y → (isDone v ≡ true → Related r q) → Related (admitted x v r) (admitted y v q)
+  admitted-related x y (refused n) r q k a = record { many = refl; stop = refl; told = refl; after = k }
+  admitted-related x y (done k) r q h a = a refl
+
+  -- one call is answered alike, and keeps R, unless it is refused by a number of which P, or Q on the other side, is not so
+  module _ {A : Type 0} (f : A → S → Outcome S) (g : A → M → Outcome M) (P Q : ℕ → Type 0)
+      (one : (a : A) (x : S) (y : M) → R x y → Refuses P (f a x .answer) → Refuses Q (g a y .answer) → (f a x .answer ≡ g a y .answer) × R (f a x .after) (g a y .after)) where
+    pub run-related : (l : List A) (x : S) (y : M) → R x y → P (runOver f l x .stop) → Q (runOver g l y .stop) → Related (runOver f l x) (runOver g l y)
+    unfolding runOver
+    run-related [] x y r p q = record { many = refl; stop = refl; told = refl; after = r }
+    run-related (a ∷ l) x y r p q = go (f a x .answer) refl (g a y .answer) refl p q (λ k p q. run-related l (f a x .after) (g a y .after) k p q)
+      where
+        here : Ran S
+        here = runOver f l (f a x .after)
+
+        there : Ran M
+        there = runOver g l (g a y .after)
+
+        go : (s : Said) → f a x .answer ≡ s → (t : Said) → g a y .answer ≡ t → P (onwards s (f a x .after) here .stop) → Q (onwards t (g a y .after) there .stop)
+            → (R (f a x .after) (g a y .after) → P (here .stop) → Q (there .stop) → Related here there) → Related (onwards s (f a x .after) here) (onwards t (g a y .after) there)
+        go (refused m) es (refused n) et p q later =
+            let o = one a x y r (subst (Refuses P) (sym es) p) (subst (Refuses Q) (sym et) q) in
+            let e : _≡_ {A = Said} (refused m) (refused n) = sym es ∙ o .0 ∙ et in
+            let same : m ≡ n = cc in
+            record { many = refl; stop = same; told = refl; after = o .1 }
+        go (refused m) es (done v) et p q later =
+            let o = one a x y r (subst (Refuses P) (sym es) p) (subst (Refuses Q) (sym et) tt) in
+            absurd (not-both (ap isDone (sym es ∙ o .0 ∙ et)) refl)
+        go (done u) es (refused n) et p q later =
+            let o = one a x y r (subst (Refuses P) (sym es) tt) (subst (Refuses Q) (sym et) q) in
+            absurd (not-both refl (ap isDone (sym es ∙ o .0 ∙ et)))
+        go (done u) es (done v) et p q later =
+            let o = one a x y r (subst (Refuses P) (sym es) tt) (subst (Refuses Q) (sym et) tt) in
+            let e : _≡_ {A = Said} (done u) (done v) = sym es ∙ o .0 ∙ et in
+            let same : u ≡ v = cc in
+            let k = later (o .1) p q in
+            record { many = ap suc (k .many); stop = k .stop; told = λ i. same i ∷ k .told i; after = k .after }
+
+-- ---- view x is what x is seen as
 
 module _ {S M : Type 0} (view : S → M) where
   pub record Agree (o : Outcome S) (q : Outcome M) : Type 0 where
     pub answer : o .answer ≡ q .answer
     pub after : view (o .after) ≡ q .after
 
-  pub record Alike (r : Ran S) (q : Ran M) : Type 0 where
-    pub many : r .many ≡ q .many
-    pub stop : r .stop ≡ q .stop
-    pub told : r .told ≡ q .told
-    pub after : view (r .after) ≡ q .after
+  abbrev pub Alike : Ran S → Ran M → Type 0
+  Alike = Related (λ x m. view x ≡ m)
 
   pub admitted-alike : (x : S) (v : Said) (r : Ran S) (q : Ran M) → Alike r q → Alike (admitted x v r) (admitted (view x) v q)
-  admitted-alike x (refused n) r q a = record { many = refl; stop = refl; told = refl; after = refl }
-  admitted-alike x (done k) r q a = a
+  admitted-alike x v r q a = admitted-related (λ x m. view x ≡ m) x (view x) v r q refl (λ d. a)
 
   module _ {A : Type 0} (f : A → S → Outcome S) (g : A → M → Outcome M) (P : S → Type 0) (keeps : (a : A) (x : S) → P x → P (f a x .after))
       (agree : (a : A) (x : S) → P x → Agree (f a x) (g a (view x))) where
     pub run-alike : (l : List A) (x : S) → P x → Alike (runOver f l x) (runOver g l (view x))
-    unfolding runOver
-    run-alike [] x p = record { many = refl; stop = refl; told = refl; after = refl }
-    run-alike (a ∷ l) x p =
-        let e = agree a x p in
-        let later = subst (λ (m : M). Alike (runOver f l (f a x .after)) (runOver g l m)) (e .after) (run-alike l (f a x .after) (keeps a x p)) in
-        subst (λ (s : Said). Alike (onwards (f a x .answer) (f a x .after) (runOver f l (f a x .after))) (onwards s (g a (view x) .after) (runOver g l (g a (view x) .after)))) (e .answer)
-        (go (f a x .answer) (e .after) later)
+    run-alike l x p =
+        let k = run-related Seen f g (λ n. Unit {0}) (λ n. Unit {0}) one l x (view x) (p, refl) tt tt in
+        record { many = k .many; stop = k .stop; told = k .told; after = k .after .1 }
       where
-        go : (s : Said) → view (f a x .after) ≡ g a (view x) .after → Alike (runOver f l (f a x .after)) (runOver g l (g a (view x) .after))
-            → Alike (onwards s (f a x .after) (runOver f l (f a x .after))) (onwards s (g a (view x) .after) (runOver g l (g a (view x) .after)))
-        go (refused n) q r = record { many = refl; stop = refl; told = refl; after = q }
-        go (done v) q r = record { many = ap suc (r .many); stop = r .stop; told = ap (λ t. v ∷ t) (r .told); after = r .after }
+        Seen : S → M → Type 0
+        Seen x m = P x × (view x ≡ m)
+
+        one : (a : A) (x : S) (m : M) → Seen x m → Refuses (λ n. Unit {0}) (f a x .answer) → Refuses (λ n. Unit {0}) (g a m .answer)
+            → (f a x .answer ≡ g a m .answer) × Seen (f a x .after) (g a m .after)
+        one a x m s t u =
+            let e = agree a x (s .0) in
+            (e .answer ∙ ap (λ (n : M). g a n .answer) (s .1), (keeps a x (s .0), e .after ∙ ap (λ (n : M). g a n .after) (s .1)))

@@ -1,0 +1,85 @@
+-- An act at an opening, beside the same act at an opening that is the same but for its record's place, where there is another room: the same
+-- refusal, or uses that are the same but for the place. Assumes nothing.
+use Prim.Native.Nat.{ℕ}
+use mathlib.Core.Path.{_≡_, refl}
+use mathlib.Core.Bool.{Bool, true, false, not, _&&_}
+use mathlib.Core.Option.{Option}
+use mathlib.Core.List.{List}
+use lib.Dec.{T, eqb}
+use Rattle.combine.specs.Verdict.{Verdict}
+use Rattle.combine.specs.laws.Beside.{Beside, keep, skip}
+use Rattle.names.specs.Names.{nameOf}
+use Rattle.rules.specs.Calls.{Act, rename, reset, newPointer, deletePointer, write, next, prev, askSpecies, askClaim, askPermit, askSymbol, askBegin, askEnd, askValue}
+use Rattle.rules.specs.Headings.{Handle, value}
+use Rattle.rules.specs.Effects.{Use, does}
+use Rattle.rules.specs.Access.{writeRule, nextRule, prevRule, newPointerRule, deletePointerRule, valueRule, renameRule, acting}
+
+-- the handle, with its record at another place
+abbrev pub placed : Handle → Option ℕ → Handle
+placed h q = record { place = q; permit = h .permit; name = h .name; species = h .species; pointers = h .pointers }
+
+abbrev pub moveTo : Option ℕ → Use → Use
+moveTo q u = does (u .told) (placed (u .handle) q) (u .deed)
+
+-- u leaves the place of h, and v is u at the place q
+abbrev pub SameUse : Handle → Option ℕ → Use → Use → Type 0
+SameUse h q u v = (u .handle .place ≡ h .place) × (v ≡ moveTo q u)
+
+-- more room, no more refusals for want of it
+no-less-room : (a r s : Bool) → (T r → T s) → T (not (a && not r)) → T (not (a && not s))
+no-less-room false r s e t = tt
+no-less-room true true true e t = tt
+no-less-room true true false e t = absurd (e tt)
+no-less-room true false s e t = absurd t
+
+-- 9 is excepted here; and there, or there is as much room
+module _ (P Q : ℕ → Type 0) (h : Handle) (q : Option ℕ) (takes : ℕ → Bool) (room room' : Bool) (here : P 9 → ⊥) (there : Q 9 → T room → T room') where
+  abbrev Same : Verdict Use → Verdict Use → Type 0
+  Same = Beside P Q (SameUse h q)
+
+  write-beside : (p n : ℕ) → Same (writeRule p n takes room h) (writeRule p n takes room' (placed h q))
+  unfolding writeRule
+  write-beside p n =
+      keep P Q _ 4 _ _ _ _ refl (λ t. keep P Q _ 5 _ _ _ _ refl (λ t. keep P Q _ 6 _ _ _ _ refl (λ t. keep P Q _ 7 _ _ _ _ refl (λ t. keep P Q _ 10 _ _ _ _ refl (λ t.
+      keep P Q _ 8 _ _ _ _ refl (λ t.
+      skip P Q _ 9 _ _ _ _ (λ k. absurd (here k)) (λ t k. no-less-room (not (eqb p 0) && takes (value h p)) room room' (there k) t) (λ t u. (refl, refl))))))))
+
+  next-beside : (p : ℕ) → Same (nextRule p h) (nextRule p (placed h q))
+  unfolding nextRule
+  next-beside p = keep P Q _ 4 _ _ _ _ refl (λ t. keep P Q _ 5 _ _ _ _ refl (λ t. keep P Q _ 6 _ _ _ _ refl (λ t. keep P Q _ 7 _ _ _ _ refl (λ t. (refl, refl)))))
+
+  prev-beside : (p : ℕ) → Same (prevRule p h) (prevRule p (placed h q))
+  unfolding prevRule
+  prev-beside p = keep P Q _ 4 _ _ _ _ refl (λ t. keep P Q _ 5 _ _ _ _ refl (λ t. keep P Q _ 6 _ _ _ _ refl (λ t. keep P Q _ 7 _ _ _ _ refl (λ t. (refl, refl)))))
+
+  new-pointer-beside : (p : ℕ) → Same (newPointerRule p h) (newPointerRule p (placed h q))
+  unfolding newPointerRule
+  new-pointer-beside p = keep P Q _ 4 _ _ _ _ refl (λ t. keep P Q _ 21 _ _ _ _ refl (λ t. (refl, refl)))
+
+  delete-pointer-beside : (p : ℕ) → Same (deletePointerRule p h) (deletePointerRule p (placed h q))
+  unfolding deletePointerRule
+  delete-pointer-beside p = keep P Q _ 4 _ _ _ _ refl (λ t. (refl, refl))
+
+  value-beside : (p : ℕ) → Same (valueRule p h) (valueRule p (placed h q))
+  unfolding valueRule
+  value-beside p = keep P Q _ 4 _ _ _ _ refl (λ t. (refl, refl))
+
+  rename-beside : (n : List ℕ) → Same (renameRule n h) (renameRule n (placed h q))
+  unfolding renameRule
+  rename-beside n = keep P Q _ 5 _ _ _ _ refl (λ t. (refl, refl))
+
+  pub acting-beside : (act : Act) → Same (acting act takes room h) (acting act takes room' (placed h q))
+  acting-beside (rename bytes) = rename-beside (nameOf bytes)
+  acting-beside reset = (refl, refl)
+  acting-beside (newPointer p) = new-pointer-beside p
+  acting-beside (deletePointer p) = delete-pointer-beside p
+  acting-beside (write p n) = write-beside p n
+  acting-beside (next p) = next-beside p
+  acting-beside (prev p) = prev-beside p
+  acting-beside askSpecies = (refl, refl)
+  acting-beside askClaim = (refl, refl)
+  acting-beside askPermit = (refl, refl)
+  acting-beside (askSymbol k) = (refl, refl)
+  acting-beside askBegin = (refl, refl)
+  acting-beside askEnd = (refl, refl)
+  acting-beside (askValue p) = value-beside p
