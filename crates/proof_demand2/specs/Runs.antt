@@ -23,7 +23,7 @@ use Rattle.proof_demand2.specs.Calls.{request-agreed}
 
 module _ (u e : ℕ) where
   -- what is judged before the first call
-  admission-known : (r : Run) (x : Lent) → Sound x → admission (soundLent (x .store) (x .tables)) r u e (houseOf (x .tables)) ≡ admission true r u e (viewOn x .house)
+  pub admission-known : (r : Run) (x : Lent) → Sound x → admission (soundLent (x .store) (x .tables)) r u e (houseOf (x .tables)) ≡ admission true r u e (viewOn x .house)
   unfolding view
   admission-known r x sound = ap (λ (b : Bool). admission b r u e (houseOf (x .tables))) sound ∙ sym (admission-seen (x .store) r u e (houseOf (x .tables)))
 

@@ -10,7 +10,6 @@ use Rattle.combine.specs.Verdict.{isDone}
 use Rattle.placing.specs.Sizes.{entryOf}
 use Rattle.rules.specs.Calls.{Request, Run, Call, starts, asks, on, runs}
 use Rattle.cells.specs.Outcomes.{Lent}
-use Rattle.model.specs.Step.{Report}
 use Rattle.proof_calls_sound.specs.Keeps.{keeps-sound}
 use Rattle.demands.specs.History.{outcomeOn, afterCall, viewOn, final, those, Each, toldAll}
 use Rattle.demands.specs.Hearing.{Fate, remains, leftFate, fateIn, hear, heard, heardOf, answeredAs}

@@ -7,11 +7,11 @@ use mathlib.Core.Option.{Option, none}
 use mathlib.Core.List.{List, map}
 use lib.Dec.{T, eqb}
 use lib.Seq.{getD-set-other}
-use Rattle.combine.specs.Verdict.{Said, refused, done}
+use Rattle.combine.specs.Verdict.{Said, refused}
 use Rattle.combine.specs.Outcome.{Outcome}
 use Rattle.combine.specs.Run.{Ran, ran, runOver, admitted}
-use Rattle.combine.specs.laws.Verdict.{Refuses}
-use Rattle.combine.specs.laws.Run.{run-related, run-keeps, admitted-keeps, run-map}
+use Rattle.combine.specs.laws.Verdict.{Refuses, refuses-test}
+use Rattle.combine.specs.laws.Run.{Related, admitted-related, run-related, run-keeps, admitted-keeps, run-map}
 use Rattle.placing.specs.Sizes.{greatestEntry, entryOf}
 use Rattle.rules.specs.Calls.{Request, Act, uses, write, next, Run, writes, fills}
 use Rattle.rules.specs.Headings.{Open, handleOf}
@@ -49,12 +49,8 @@ module _ (u e v d : ℕ) (le : e ≤ greatestEntry) (other : T (not (eqb u v && 
   one-another : (q : Request) (m n : Model) → Emptied m n → Refuses Calm (call q m .answer) → Refuses (λ k. Unit {0}) (call q n .answer)
       → (call q m .answer ≡ call q n .answer) × Emptied (call q m .after) (call q n .after)
   one-another q m n s c t =
-      let o = ap (call q) s ∙ request-another u e m v d q le other (calm-said (call q m .answer) c) in
+      let o = ap (call q) s ∙ request-another u e m v d q le other (refuses-test crowded (λ k. tt) (call q m .answer) c) in
       (sym (ap (λ (o : Outcome Model). o .answer) o), ap (λ (o : Outcome Model). o .after) o)
-    where
-      calm-said : (a : Said) → Refuses Calm a → T (not (crowded a))
-      calm-said (refused k) t = t
-      calm-said (done k) t = tt
 
   -- what is judged before the first call
   admission-another : (r : Run) (h : Files) → admission true r v d (emptiedHouse i h) ≡ admission true r v d h
@@ -65,14 +61,14 @@ module _ (u e v d : ℕ) (le : e ≤ greatestEntry) (other : T (not (eqb u v && 
   pub run-another : (r : Run) (m : Model) → Unstopped (runOnModel r v d m) → runOnModel r v d (emptied i m) ≡ carriedRun i (runOnModel r v d m)
   unfolding runOnModel
   run-another r m t =
-      ap (λ (a : Said). admitted (emptied i m) a (runOver call (requestsOf r) (emptied i m))) (admission-another r (m .house)) ∙ go (admission true r v d (m .house)) t
+      ap (λ (a : Said). admitted (emptied i m) a (runOver call (requestsOf r) (emptied i m))) (admission-another r (m .house)) ∙ (λ j. ran (sym (k .many) j) (sym (k .stop) j) (sym (k .told) j) (k .after j))
     where
-      go : (a : Said) → Unstopped (admitted m a (runOver call (requestsOf r) m))
-          → admitted (emptied i m) a (runOver call (requestsOf r) (emptied i m)) ≡ carriedRun i (admitted m a (runOver call (requestsOf r) m))
-      go (refused n) t = refl
-      go (done k) t =
-          let s = run-related Emptied call call Calm (λ k. Unit {0}) one-another (requestsOf r) m (emptied i m) refl t tt in
-          λ j. ran (sym (s .many) j) (sym (s .stop) j) (sym (s .told) j) (s .after j)
+      judged : Said
+      judged = admission true r v d (m .house)
+
+      k : Related Emptied (admitted m judged (runOver call (requestsOf r) m)) (admitted (emptied i m) judged (runOver call (requestsOf r) (emptied i m)))
+      k = admitted-related Emptied Calm (λ k. Unit {0}) m (emptied i m) judged _ _ refl t tt
+          (λ s u. run-related Emptied call call Calm (λ k. Unit {0}) one-another (requestsOf r) m (emptied i m) refl s tt)
 
 -- ---- by the entry itself
 

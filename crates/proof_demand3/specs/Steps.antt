@@ -1,25 +1,25 @@
 -- Any call that is not the user's by the entry, beside the same call where the entry is emptied; and a call where only the store differs in
 -- what freed segments were left with. Assumes nothing.
 use Prim.Native.Nat.{ℕ, _≤_}
-use mathlib.Core.Path.{_≡_, refl, sym, ap, _∙_, subst}
+use mathlib.Core.Path.{_≡_, refl, sym, ap, _∙_}
 use mathlib.Core.Bool.{Bool, true, false, not, _&&_, _||_, cond}
-use mathlib.Core.Option.{Option, none, some}
+use mathlib.Core.Option.{Option, some}
 use mathlib.Core.List.{List}
-use borrow.Author.Tests.{eqb-true}
-use lib.Dec.{T, ltb, leb, eqb}
+use lib.Dec.{T, leb, eqb}
 use Rattle.combine.specs.laws.Below.{not-both}
 use Rattle.combine.specs.Verdict.{Said, done, refused, isDone, refuse_when_else_}
 use Rattle.combine.specs.Outcome.{Outcome, outcomeOf, settle}
 use Rattle.combine.specs.Run.{Ran}
-use Rattle.placing.specs.Sizes.{greatestUser, entryOf}
+use Rattle.placing.specs.Sizes.{entryOf}
 use Rattle.rules.specs.Calls.{fresh, load, save, count, Run, writes, fills, Call, starts, asks, on, runs}
 use Rattle.rules.specs.Headings.{isSome}
-use Rattle.rules.specs.Gates.{userGate, startGate, imageGate}
+use Rattle.rules.specs.Gates.{startGate, imageGate}
 use Rattle.rules.specs.House.{closedDown}
-use Rattle.rules.specs.Runs.{runAnswer, runTold, noRun}
-use Rattle.model.specs.Model.{Files, Model, free}
-use Rattle.model.specs.Step.{Report, report, askModel, runOnModel, step, stepRun, stepTold}
+use Rattle.rules.specs.Runs.{runAnswer, runTold}
+use Rattle.model.specs.Model.{Files, Model}
+use Rattle.model.specs.Step.{Report, report, runOnModel, step, stepRun, stepTold}
 use Rattle.demands.specs.Hearing.{leftFate, hear}
+use Rattle.demands.specs.laws.Hearing.{unstopped, count-heard}
 use Rattle.demands.specs.Abandoning.{isOn, ends, crowded, quiet, isLoad}
 use Rattle.combine.specs.laws.Tests.{and-first, and-second}
 use Rattle.proof_demand3.specs.Eased.{emptied}
@@ -63,14 +63,6 @@ load-alike f g h m n o img same t =
 abbrev pub answeredIn : Report → Said
 answeredIn r = cond (eqb (r .run .stop) 0) (r .answer) (refused (r .run .stop))
 
--- what is not answered 9 or 14 in this sense is not stopped by them; a stop of 0 is no refusal
-unstopped : (r : Report) → T (not (crowded (answeredIn r))) → T (not (crowded (refused (r .run .stop))))
-unstopped r t = go (eqb (r .run .stop) 0) refl t
-  where
-    go : (b : Bool) → eqb (r .run .stop) 0 ≡ b → T (not (crowded (cond b (r .answer) (refused (r .run .stop))))) → T (not (crowded (refused (r .run .stop))))
-    go true p t = subst (λ (n : ℕ). T (not (crowded (refused n)))) (sym (eqb-true (r .run .stop) 0 p)) tt
-    go false p t = t
-
 pub goes-on : (u e : ℕ) (c : Call) (a : Said) → T (quiet u e c a) → T (not (ends u e c && isDone a))
 goes-on u e c a q = and-first (not (ends u e c && isDone a)) (isOn u e c || not (crowded a)) q
 
@@ -84,18 +76,6 @@ uncrowded u e c a other q = go (isOn u e c) other (and-second (not (ends u e c &
 -- the same is heard
 abbrev pub ToldAlike : Call → Report → Report → Type 0
 ToldAlike c a b = hear (leftFate c) a ≡ hear (leftFate c) b
-
--- a count of an unknown user is refused, whatever is free
-count-told : (u : ℕ) (m n : Model) → ToldAlike (asks (count u)) (record { answer = askModel (count u) m; image = none; run = noRun }) (record { answer = askModel (count u) n; image = none; run = noRun })
-unfolding userGate refuse_when_else_
-count-told u m n = go (ltb greatestUser u)
-  where
-    told : Bool → ℕ → Report
-    told b k = record { answer = refuse 1 when b else done k; image = none; run = noRun }
-
-    go : (b : Bool) → ToldAlike (asks (count u)) (told b (free (m .house))) (told b (free (n .house)))
-    go true = refl
-    go false = refl
 
 -- afterwards the entry is emptied, and the same is told, but for the numbers of counts
 pub record Carried (i : ℕ) (c : Call) (f g : Look) (m : Model) : Type 0 where
@@ -123,12 +103,12 @@ step-another u e f g m (starts (load img)) le same other q =
     whole-carried (entryOf u e) (starts (load img)) f g m
     (load-alike f g (emptied (entryOf u e)) m _ _ img same (goes-on u e (starts (load img)) (step f (starts (load img)) m .answer) q)) refl
 step-another u e f g m (asks (save img)) le same other q = whole-carried (entryOf u e) (asks (save img)) f g m refl refl
-step-another u e f g m (asks (count v)) le same other q = record { after = refl; told = count-told v m (emptied (entryOf u e) m) }
+step-another u e f g m (asks (count v)) le same other q = record { after = refl; told = count-heard v m (emptied (entryOf u e) m) }
 step-another u e f g m (on v d r) le same other q =
     whole-carried (entryOf u e) (on v d r) f g m (request-another u e m v d r le (rw other tt) (uncrowded u e (on v d r) (step f (on v d r) m .answer) other q)) refl
 step-another u e f g m (runs v d r) le same other q =
     run-carried (entryOf u e) v d r f g m
-    (run-another u e v d le (rw other tt) r m (unstopped (stepTold f (runs v d r) m) (uncrowded u e (runs v d r) (answeredIn (stepTold f (runs v d r) m)) other q)))
+    (run-another u e v d le (rw other tt) r m (unstopped crowded (runOnModel r v d m .stop) (runAnswer (runOnModel r v d m)) tt (uncrowded u e (runs v d r) (answeredIn (stepTold f (runs v d r) m)) other q)))
 
 -- ---- a call on the same state, beside another store
 

@@ -1,7 +1,7 @@
 -- Laws of combine/specs/Run.antt. Assumes nothing.
 use Prim.Native.Nat.{ℕ, suc, _+_, _<_}
 use mathlib.Core.Path.{_≡_, refl, sym, ap, _∙_, subst}
-use mathlib.Core.Bool.{true, false}
+use mathlib.Core.Bool.{false}
 use mathlib.Core.List.{List, [], _∷_, _++_, map, append-assoc}
 use native.Mathlib.Nat.{zero-add}
 use native.Mathlib.Omega.{arith}
@@ -123,9 +123,12 @@ module _ {S M : Type 0} (R : S → M → Type 0) where
     pub told : r .told ≡ q .told
     pub after : R (r .after) (q .after)
 
-  pub admitted-related : (x : S) (y : M) (v : Said) (r : Ran S) (q : Ran M) → R x y → (isDone v ≡ true → Related r q) → Related (admitted x v r) (admitted y v q)
-  admitted-related x y (refused n) r q k a = record { many = refl; stop = refl; told = refl; after = k }
-  admitted-related x y (done k) r q h a = a refl
+  -- P and Q are so of the numbers that stop them
+  module _ (P Q : ℕ → Type 0) where
+    pub admitted-related : (x : S) (y : M) (v : Said) (r : Ran S) (q : Ran M) → R x y → P (admitted x v r .stop) → Q (admitted y v q .stop)
+        → (P (r .stop) → Q (q .stop) → Related r q) → Related (admitted x v r) (admitted y v q)
+    admitted-related x y (refused n) r q k s t h = record { many = refl; stop = refl; told = refl; after = k }
+    admitted-related x y (done k) r q e s t h = h s t
 
   -- one call is answered alike, and keeps R, unless it is refused by a number of which P, or Q on the other side, is not so
   module _ {A : Type 0} (f : A → S → Outcome S) (g : A → M → Outcome M) (P Q : ℕ → Type 0)
@@ -172,7 +175,7 @@ module _ {S M : Type 0} (view : S → M) where
   Alike = Related (λ x m. view x ≡ m)
 
   pub admitted-alike : (x : S) (v : Said) (r : Ran S) (q : Ran M) → Alike r q → Alike (admitted x v r) (admitted (view x) v q)
-  admitted-alike x v r q a = admitted-related (λ x m. view x ≡ m) x (view x) v r q refl (λ d. a)
+  admitted-alike x v r q a = admitted-related (λ x m. view x ≡ m) (λ n. Unit {0}) (λ n. Unit {0}) x (view x) v r q refl tt tt (λ s t. a)
 
   module _ {A : Type 0} (f : A → S → Outcome S) (g : A → M → Outcome M) (P : S → Type 0) (keeps : (a : A) (x : S) → P x → P (f a x .after))
       (agree : (a : A) (x : S) → P x → Agree (f a x) (g a (view x))) where

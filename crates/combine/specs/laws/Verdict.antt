@@ -1,8 +1,9 @@
 -- Laws of combine/specs/Verdict.antt. Assumes nothing.
 use Prim.Native.Nat.{ℕ}
 use mathlib.Core.Path.{_≡_}
-use mathlib.Core.Bool.{Bool, true, false}
-use Rattle.combine.specs.Verdict.{Verdict, refuse_when_else_, refused, done, onDone}
+use mathlib.Core.Bool.{Bool, true, false, not}
+use lib.Dec.{T}
+use Rattle.combine.specs.Verdict.{Verdict, Said, refuse_when_else_, refused, done, onDone}
 
 module _ {S : Type 0} where
   pub refused-here : (n : ℕ) (b : Bool) (v : Verdict S) → b ≡ true → refuse_when_else_ n b v ≡ refused n
@@ -18,6 +19,11 @@ module _ {S : Type 0} where
 abbrev pub Refuses : {S : Type 0} → (ℕ → Type 0) → Verdict S → Type 0
 Refuses P (refused n) = P n
 Refuses P (done s) = Unit {0}
+
+-- an answer that is refused by no number that passes a test, where no answer that is done passes it
+pub refuses-test : (f : Said → Bool) → ((n : ℕ) → T (not (f (done n)))) → (a : Said) → Refuses (λ n. T (not (f (refused n)))) a → T (not (f a))
+refuses-test f h (refused n) t = t
+refuses-test f h (done n) t = h n
 
 module _ (P : ℕ → Type 0) where
   pub refuses : {S : Type 0} (n : ℕ) (b : Bool) (v : Verdict S) → P n → Refuses P v → Refuses P (refuse_when_else_ n b v)

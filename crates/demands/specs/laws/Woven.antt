@@ -3,7 +3,7 @@
 -- nothing.
 use Prim.Native.Nat.{ℕ}
 use native.Mathlib.Omega.{arith}
-use mathlib.Core.Path.{_≡_, refl, sym, ap₂, subst}
+use mathlib.Core.Path.{_≡_, refl, ap₂, subst}
 use mathlib.Core.Bool.{Bool, true, false, cond}
 use mathlib.Core.List.{List, [], _∷_, _++_}
 use Rattle.rules.specs.Calls.{Call}

@@ -27,11 +27,11 @@ use Rattle.model.specs.View.{viewPlace, viewEntry, viewHouse}
 
 -- ---- headings and handles
 
-head-seen : (s : List ℕ) (r : Option SegmentRecord) → headOf (viewPlace s r) ≡ headOf r
+pub head-seen : (s : List ℕ) (r : Option SegmentRecord) → headOf (viewPlace s r) ≡ headOf r
 head-seen s none = refl
 head-seen s (some r) = refl
 
-heads-seen : (s : List ℕ) (rs : List (Option SegmentRecord)) → map headOf (map (viewPlace s) rs) ≡ map headOf rs
+pub heads-seen : (s : List ℕ) (rs : List (Option SegmentRecord)) → map headOf (map (viewPlace s) rs) ≡ map headOf rs
 heads-seen s [] = refl
 heads-seen s (r ∷ rs) = λ i. head-seen s r i ∷ heads-seen s rs i
 

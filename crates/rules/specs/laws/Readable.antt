@@ -51,6 +51,13 @@ look-up-read u n rs = go (ltb own (length rs))
     go true l = own-read u n (getD rs own none) (first-where (passes (isOwn u n)) rs none l)
     go false l = public-read u n (getD rs public none) (first-where (passes (isPublic n)) rs none l)
 
+-- at the place that look-up gives there is nothing, or what he may read
+pub looked-up : (u : ℕ) (n : List ℕ) (rs : List (Option Heading)) → T (mayReadAt u (getD rs (lookUp u n rs) none))
+looked-up u n rs = ⊎-elim (λ l. subst (λ (x : Option Heading). T (mayReadAt u x)) (sym (nothing l)) tt) (look-up-read u n rs) (le-or-lt (length rs) (lookUp u n rs))
+  where
+    nothing : length rs ≤ lookUp u n rs → getD rs (lookUp u n rs) none ≡ none
+    nothing l = List·getD-eq-default rs none l
+
 -- ---- the catalogue from which all private files of others are taken away
 
 -- what passes is there as before
@@ -84,11 +91,7 @@ module _ (u : ℕ) (n : List ℕ) (rs : List (Option Heading)) where
 
   found-same : getD (map (only (mayRead u)) rs) (lookUp u n rs) none ≡ getD rs (lookUp u n rs) none
   found-same =
-      List·getD-map (only (mayRead u)) rs (lookUp u n rs) none
-      ∙ ⊎-elim (λ l. ap (only (mayRead u)) (nothing l) ∙ sym (nothing l)) (λ l. kept u (getD rs (lookUp u n rs) none) (look-up-read u n rs l)) (le-or-lt (length rs) (lookUp u n rs))
-    where
-      nothing : length rs ≤ lookUp u n rs → getD rs (lookUp u n rs) none ≡ none
-      nothing l = List·getD-eq-default rs none l
+      List·getD-map (only (mayRead u)) rs (lookUp u n rs) none ∙ kept u (getD rs (lookUp u n rs) none) (looked-up u n rs)
 
   old-absent : (w : Bool) (o : Others) → openOld w u n (map (only (mayRead u)) rs) o ≡ openOld w u n rs o
   unfolding openOld
