@@ -34,7 +34,7 @@ use Rattle.proof_examples.specs.OnSegments.{stateAfter, goesOn, state-known}
 use Rattle.proof_examples.specs.Worked.{houseWithA}
 use Rattle.proof_demand3.specs.SavedImage.{cells-after, buffer, image-sound, image-says}
 
-abbrev opensA : Call
+abbrev pub opensA : Call
 opensA = on 2 0 (opens (read bytesOfA))
 
 abbrev readsA : Call
@@ -79,13 +79,13 @@ unfolding stateAfter
 reads-first s = refl
 
 module _ (y : Lent) (sound : Sound y) (cells : length (y .store) ≡ 8192) where
-  loaded : stateOf (afterCall (starts (load imageWithA)) y) ≡ state (y .store) houseWithA
+  pub loaded : stateOf (afterCall (starts (load imageWithA)) y) ≡ state (y .store) houseWithA
   loaded =
       ap (λ (o : Outcome Lent). stateOf (o .after)) (load-done (y .store) (y .tables) imageWithA (ranged-of (length (y .store)) (y .tables) sound .0)
       (subst (λ (n : ℕ). imageb form1 n imageWithA ≡ true) (sym cells) image-sound))
       ∙ ap (state (y .store)) image-says
 
-  loaded-sound : Sound (afterCall (starts (load imageWithA)) y)
+  pub loaded-sound : Sound (afterCall (starts (load imageWithA)) y)
   loaded-sound = keeps-sound (starts (load imageWithA)) y sound
 
   read-after : outcomeOn readsA (final (starts (load imageWithA) ∷ opensA ∷ []) y) .answer ≡ done (firstOf (y .store))

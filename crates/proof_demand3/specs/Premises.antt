@@ -27,7 +27,7 @@ quietb u e (c ∷ cs) m = quiet u e c (answeredIn (stepTold blind c m)) && quiet
 
 -- ---- histories
 
-final-known : (cs : List Call) (x : Lent) → Sound x → T (noLoadb cs) → (viewOn (final cs x) ≡ knownAfter cs (viewOn x)) × Sound (final cs x)
+pub final-known : (cs : List Call) (x : Lent) → Sound x → T (noLoadb cs) → (viewOn (final cs x) ≡ knownAfter cs (viewOn x)) × Sound (final cs x)
 final-known [] x s n = (refl, s)
 final-known (c ∷ cs) x s n =
     let one = and-first (not (isLoad c)) (noLoadb cs) n in

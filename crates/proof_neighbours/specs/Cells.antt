@@ -7,7 +7,7 @@ use mathlib.Core.List.{List, map}
 use lib.Dec.{T, eqb, eqb-refl}
 use lib.ListN.{length, getD, length-map, List·getD-map}
 use Rattle.placing.specs.Sizes.{entryOf, userOf}
-use Rattle.rules.specs.Calls.{Request, opens, closes, abandons, uses, on}
+use Rattle.rules.specs.Calls.{Request, opens, closes, abandons, uses, Call, starts, asks, on, runs}
 use Rattle.rules.specs.Readable.{mayRead}
 use Rattle.rules.specs.Headings.{Heading, Open, headOf, handleOf, passes}
 use Rattle.rules.specs.House.{house}
@@ -23,7 +23,7 @@ use Rattle.proof_cells_agree.specs.SoundSays.{sound-says}
 use Rattle.demands.specs.History.{viewOn}
 use Rattle.demands.specs.Demands.{Sound}
 use Rattle.combine.specs.laws.Tests.{or-second}
-use Rattle.proof_neighbours.specs.Neighbours.{publicAt, opensPublic, NonePublic, openly}
+use Rattle.proof_neighbours.specs.Neighbours.{publicAt, opensPublic, NonePublic, asksOpenly, openly}
 use Rattle.proof_neighbours.specs.Effects.{Tied}
 use Rattle.proof_neighbours.specs.Busy.{Known}
 
@@ -100,9 +100,15 @@ pub quiet-view : (a : ℕ) (x : Lent) → NonePublic a (houseOf (x .tables)) →
 unfolding view
 quiet-view a x q i d = rw (opens-seen (x .store) (houseOf (x .tables)) i) (q i d)
 
-pub openly-view : (v d : ℕ) (r : Request) (x : Lent) → openly (on v d r) (houseOf (x .tables)) ≡ openly (on v d r) (viewOn x .house)
+request-openly : (r : Request) (i : ℕ) (x : Lent) → asksOpenly r i (houseOf (x .tables)) ≡ asksOpenly r i (viewOn x .house)
 unfolding view
-openly-view v d (opens w) x = sym (opens-seen (x .store) (houseOf (x .tables)) (entryOf v d))
-openly-view v d (closes b) x = refl
-openly-view v d abandons x = refl
-openly-view v d (uses act) x = refl
+request-openly (opens w) i x = sym (opens-seen (x .store) (houseOf (x .tables)) i)
+request-openly (closes b) i x = refl
+request-openly abandons i x = refl
+request-openly (uses act) i x = refl
+
+pub openly-view : (c : Call) (x : Lent) → openly c (houseOf (x .tables)) ≡ openly c (viewOn x .house)
+openly-view (starts c) x = refl
+openly-view (asks q) x = refl
+openly-view (on v d r) x = request-openly r (entryOf v d) x
+openly-view (runs v d r) x = refl

@@ -46,7 +46,7 @@ module _ (a : ℕ) where
   other-good x y g v d r other t =
       let agreed = request-agreed (y .store) (y .tables) (g .soundThere) r v d in
       let known : openly (on v d r) (houseOf (afterCall (on v d r) y .tables)) ≡ openly (on v d r) (requestOnModel r v d (viewOn y) .after .house) =
-      openly-view v d r (afterCall (on v d r) y) ∙ ap (λ (m : Model). openly (on v d r) (m .house)) (agreed .after) in
+      openly-view (on v d r) (afterCall (on v d r) y) ∙ ap (λ (m : Model). openly (on v d r) (m .house)) (agreed .after) in
       let unseen = other-step a (viewOn x .house) (viewOn y) (g .sees) (known-view a y (g .soundThere) (g .quietThere)) v d other r
       (subst (λ (b : Bool). T (not b)) (ap₂ (λ (s : Said) (b : Bool). isDone s && b) (agreed .answer) known) t) in
       record {
