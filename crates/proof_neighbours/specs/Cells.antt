@@ -24,7 +24,7 @@ use Rattle.demands.specs.History.{viewOn}
 use Rattle.demands.specs.Demands.{Sound}
 use Rattle.combine.specs.laws.Tests.{or-second}
 use Rattle.proof_neighbours.specs.Neighbours.{publicAt, opensPublic, NonePublic, asksOpenly, openly}
-use Rattle.proof_neighbours.specs.Effects.{Tied}
+use Rattle.proof_neighbours.specs.Effects.{Tied, AllTied}
 use Rattle.proof_neighbours.specs.Busy.{Known}
 
 module _ (s : List ℕ) where
@@ -81,11 +81,14 @@ module _ (s : List ℕ) where
           let same : viewOpening s rs z ≡ x = cc in
           subst (λ (y : Open Body). y .handle .place ≡ some p → Tied (viewHouse s h) i p y) same (λ q. tied-view i p z o q) q
 
+      tied-house : AllTied (viewHouse s h)
+      tied-house i p x ix e = entry-tied i p x (getD (h .openings) i none) (sound .openings i) (sym (List·getD-map (viewEntry s rs) (h .openings) i none) ∙ ix) e
+
       pub known-house : (a : ℕ) → NonePublic a (viewHouse s h) → Known a (viewHouse s h)
       known-house a quiet = record {
         own = λ n. subst (λ (l : List (Option Heading)). Single (passes (isOwn a n)) l) (sym (heads-seen s rs)) (sound .own a n);
         public = λ n. subst (λ (l : List (Option Heading)). Single (passes (isPublic n)) l) (sym (heads-seen s rs)) (sound .public n);
-        tied = λ i p x ix e. entry-tied i p x (getD (h .openings) i none) (sound .openings i) (sym (List·getD-map (viewEntry s rs) (h .openings) i none) ∙ ix) e;
+        tied = tied-house;
         quiet = quiet;
         entries = length-map (h .openings) (viewEntry s rs) ∙ sound .entries;
       }
@@ -95,6 +98,10 @@ module _ (s : List ℕ) where
 pub known-view : (a : ℕ) (x : Lent) → Sound x → NonePublic a (viewOn x .house) → Known a (viewOn x .house)
 unfolding view
 known-view a x sound quiet = known-house (x .store) (houseOf (x .tables)) (sound-says (length (x .store)) (x .tables) sound) a quiet
+
+pub ties-view : (x : Lent) → Sound x → AllTied (viewOn x .house)
+unfolding view
+ties-view x sound = tied-house (x .store) (houseOf (x .tables)) (sound-says (length (x .store)) (x .tables) sound)
 
 pub quiet-view : (a : ℕ) (x : Lent) → NonePublic a (houseOf (x .tables)) → NonePublic a (viewOn x .house)
 unfolding view

@@ -48,7 +48,7 @@ not-his a r v t o d = go (r .private) t (eqb (r .owner) a) refl
     go true t false e = tt
     go false t c e = absurd t
 
-headed-owner : (public : Bool) (u : ℕ) (n : Handle) (r : Heading) → r ≡ headed public u n → r .owner ≡ u
+pub headed-owner : (public : Bool) (u : ℕ) (n : Handle) (r : Heading) → r ≡ headed public u n → r .owner ≡ u
 unfolding headed
 headed-owner public u n r e = ap (λ (y : Heading). y .owner) e
 

@@ -15,3 +15,7 @@ pub mod Cells
 pub mod Good
 pub mod Runs
 pub mod Proved
+pub mod Blotted
+pub mod AnsweredFromNone
+pub mod ChangesNone
+pub mod InSight

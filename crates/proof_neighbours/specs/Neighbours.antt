@@ -10,7 +10,7 @@ use lib.Dec.{T, eqb}
 use lib.ListN.{getD}
 use Rattle.combine.specs.Verdict.{Said, done, refused, isDone}
 use Rattle.placing.specs.Sizes.{entryOf, userOf}
-use Rattle.rules.specs.Calls.{Request, opens, closes, abandons, uses, save, count, Call, starts, asks, on, runs}
+use Rattle.rules.specs.Calls.{Request, opens, closes, abandons, uses, Call, starts, asks, on, runs}
 use Rattle.rules.specs.Headings.{Filed, headOf, handleOf, passes}
 use Rattle.rules.specs.House.{House}
 use Rattle.segments.specs.Free.{SegmentHouse}
@@ -19,16 +19,9 @@ use Rattle.cells.specs.Outcomes.{Lent}
 use Rattle.model.specs.Step.{Report}
 use Rattle.demands.specs.History.{outcomeOn, afterCall, those, Each}
 use Rattle.demands.specs.Hearing.{leftFate, fateIn, heardOf, answeredAs}
+use Rattle.demands.specs.Private.{isOf}
 
--- ---- the landlord's calls, and what he hears
-
--- "operator's calls aren't A's"
-abbrev pub isOf : (landlord : ℕ) → Call → Bool
-isOf a (starts c) = false
-isOf a (asks (save img)) = false
-isOf a (asks (count u)) = eqb a u
-isOf a (on u e r) = eqb a u
-isOf a (runs u e r) = eqb a u
+-- ---- what the landlord hears
 
 -- "A's answers and lists": what is told of each of his calls; "A's counts of free segments are excepted": the number of one that is done
 abbrev pub heardBy : (landlord : ℕ) → List Call → Lent → List Report

@@ -19,7 +19,8 @@ use Rattle.demands.specs.Hearing.{remains, leftFate, hear}
 use Rattle.demands.specs.laws.Hearing.{count-heard}
 use Rattle.demands.specs.laws.Unsound.{refuses-unsound}
 use Rattle.demands.specs.laws.Woven.{Unwinds, woven}
-use Rattle.proof_neighbours.specs.Neighbours.{isOf, openly, hindered, Apart, Neighbours}
+use Rattle.demands.specs.Private.{isOf}
+use Rattle.proof_neighbours.specs.Neighbours.{openly, hindered, Apart, Neighbours}
 use Rattle.proof_neighbours.specs.Twins.{sees-refl}
 use Rattle.proof_neighbours.specs.Cells.{known-view, quiet-view}
 use Rattle.proof_neighbours.specs.Good.{Good, good-sym, other-good, own-answer, own-good}

@@ -38,7 +38,7 @@ use Rattle.proof_neighbours.specs.Performed.{performed-same}
 
 -- ---- refused, or an effect
 
-request-cases : (P : Outcome Model → Type 0) (r : Request) (u e : ℕ) (m : Model) → ((n : ℕ) → P (outcomeOf (refused n) m))
+pub request-cases : (P : Outcome Model → Type 0) (r : Request) (u e : ℕ) (m : Model) → ((n : ℕ) → P (outcomeOf (refused n) m))
     → (u ≤ greatestUser → e ≤ greatestEntry → (f : Effect) → ruled modelLevel r u (m .house) (getD (m .house .openings) (entryOf u e) none) ≡ done f
     → let c = perform modelLevel (m .house) (orBlank modelLevel (getD (m .house .openings) (entryOf u e) none)) f in
     P (outcomeOf (done (c .answer)) (model (m .cells) (changed (m .house) (entryOf u e) c))))
@@ -58,13 +58,13 @@ request-cases P r u e m stop gone =
     go lu le (refused n) ev = stop n
     go lu le (done f) ev = gone lu le f ev
 
-allowed-at : (r : Request) (u : ℕ) (h : Files) (z : Option (Open Body)) (f : Effect) → ruled modelLevel r u h z ≡ done f
+pub allowed-at : (r : Request) (u : ℕ) (h : Files) (z : Option (Open Body)) (f : Effect) → ruled modelLevel r u h z ≡ done f
     → Allowed u (map headOf (h .records)) (modelLevel .takes h (orBlank modelLevel z)) (othersOf (modelLevel .room h) (h .openings)) (handleOf z) f
 allowed-at r u h z f ev =
     has-done (Allowed u (map headOf (h .records)) (modelLevel .takes h (orBlank modelLevel z)) (othersOf (modelLevel .room h) (h .openings)) (handleOf z))
     (ruled modelLevel r u h z) f (allowed-rule u (map headOf (h .records)) (modelLevel .takes h (orBlank modelLevel z)) (othersOf (modelLevel .room h) (h .openings)) r (handleOf z)) ev
 
-user-of : (u e : ℕ) → e ≤ 3 → userOf (entryOf u e) ≡ u
+pub user-of : (u e : ℕ) → e ≤ 3 → userOf (entryOf u e) ≡ u
 user-of u e l = omega (arith, l)
 
 -- ---- a filing is private, where the close is

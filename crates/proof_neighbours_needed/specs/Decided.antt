@@ -25,7 +25,8 @@ use Rattle.demands.specs.Abandoning.{isLoad}
 use Rattle.proof_examples.specs.Fresh.{nothingThere}
 use Rattle.proof_examples.specs.Known.{blind, noLoadb, told-blind, after-blind}
 use Rattle.proof_demand3.specs.Started.{startedOver, started-known}
-use Rattle.proof_neighbours.specs.Neighbours.{isOf, heardBy, publicAt, opensPublic, QuietStart, Apart, NeighboursBy}
+use Rattle.demands.specs.Private.{isOf}
+use Rattle.proof_neighbours.specs.Neighbours.{heardBy, publicAt, opensPublic, QuietStart, Apart, NeighboursBy}
 use Rattle.proof_neighbours.specs.Cells.{opens-seen}
 
 -- ---- what the landlord hears

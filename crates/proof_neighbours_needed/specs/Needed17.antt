@@ -15,7 +15,8 @@ use Rattle.proof_demand3.specs.Steps.{answeredIn}
 use Rattle.proof_demand3.specs.ButOne.{refusedFor}
 use Rattle.proof_demand3.specs.Started.{startedOver, started-sound, started-known}
 use Rattle.proof_demand3.specs.Answers.{heardAt}
-use Rattle.proof_neighbours.specs.Neighbours.{isOf, openly, QuietStart, NeighboursBy}
+use Rattle.demands.specs.Private.{isOf}
+use Rattle.proof_neighbours.specs.Neighbours.{openly, QuietStart, NeighboursBy}
 use Rattle.proof_neighbours.specs.Cells.{openly-view}
 use Rattle.proof_neighbours_needed.specs.Decided.{heardKnown, allApart, refuted, quiet-started}
 use Rattle.proof_neighbours_needed.specs.Needed.{hinderedBy, otherwise}

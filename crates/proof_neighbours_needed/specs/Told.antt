@@ -20,7 +20,8 @@ use Rattle.proof_examples.specs.Fresh.{nothingThere}
 use Rattle.proof_examples.specs.Known.{answersKnown, noLoadb}
 use Rattle.proof_demand3.specs.Steps.{answeredIn}
 use Rattle.proof_demand3.specs.Started.{startedOver, started-sound, started-known}
-use Rattle.proof_neighbours.specs.Neighbours.{isOf, heardBy, openly, hinders, hindered, Apart}
+use Rattle.demands.specs.Private.{isOf}
+use Rattle.proof_neighbours.specs.Neighbours.{heardBy, openly, hinders, hindered, Apart}
 use Rattle.proof_neighbours.specs.Cells.{openly-view}
 use Rattle.proof_neighbours.specs.Proved.{neighbours}
 use Rattle.proof_neighbours_needed.specs.Decided.{heardKnown, heard-known, allApart, each-apart, quiet-started}
