@@ -7,7 +7,8 @@ use Rattle.combine.specs.Verdict.{Said, done, refused, isDone}
 use Rattle.combine.specs.laws.Tests.{and-intro}
 use Rattle.rules.specs.Calls.{Call}
 use Rattle.cells.specs.Outcomes.{Lent, callRun}
-use Rattle.demands.specs.History.{outcomeOn, afterCall, final}
+use Rattle.demands.specs.History.{outcomeOn, afterCall, final, Each}
+use Rattle.demands.specs.laws.History.{each-both}
 use Rattle.demands.specs.Hearing.{answeredAs}
 use Rattle.demands.specs.Abandoning.{isOn, ends, crowded, quiet, Quiet, NoLoad, Story, openingCall, abandoning, Abandoned}
 
@@ -21,8 +22,7 @@ abbrev pub quietBut : ℕ → ℕ → ℕ → Call → Said → Bool
 quietBut n u e c a = refusedFor n a || quiet u e c a
 
 abbrev pub QuietBut : ℕ → ℕ → ℕ → List Call → Lent → Type 0
-QuietBut n u e [] x = Unit {0}
-QuietBut n u e (c ∷ cs) x = T (quietBut n u e c (answeredAs c x)) × QuietBut n u e cs (afterCall c x)
+QuietBut n u e = Each (λ c x. T (quietBut n u e c (answeredAs c x)))
 
 pub record AbandonedBut (n : ℕ) (h : Story) (x : Lent) : Type 0 where
   pub opened : T (isDone (outcomeOn (openingCall h) (final (h .before) x) .answer))
@@ -31,8 +31,7 @@ pub record AbandonedBut (n : ℕ) (h : Story) (x : Lent) : Type 0 where
 
 -- the premise left out: no call but the user's on the entry is answered n
 abbrev pub NoneAnswered : ℕ → ℕ → ℕ → List Call → Lent → Type 0
-NoneAnswered n u e [] x = Unit {0}
-NoneAnswered n u e (c ∷ cs) x = T (isOn u e c || not (refusedFor n (answeredAs c x))) × NoneAnswered n u e cs (afterCall c x)
+NoneAnswered n u e = Each (λ c x. T (isOn u e c || not (refusedFor n (answeredAs c x))))
 
 quiet-with : (n u e : ℕ) (c : Call) (a : Said) → T (quietBut n u e c a) → T (isOn u e c || not (refusedFor n a)) → T (quiet u e c a)
 quiet-with n u e c (done m) q t = q
@@ -45,20 +44,15 @@ quiet-with n u e c (refused m) q t = go (eqb m n) (isOn u e c) (ends u e c) q t
     go true true false q t = tt
     go true false ending q t = absurd t
 
-quietly-with : (n u e : ℕ) (cs : List Call) (x : Lent) → QuietBut n u e cs x → NoneAnswered n u e cs x → Quiet u e cs x
-quietly-with n u e [] x q t = tt
-quietly-with n u e (c ∷ cs) x q t = (quiet-with n u e c (answeredAs c x) (q .0) (t .0), quietly-with n u e cs (afterCall c x) (q .1) (t .1))
-
 -- with it, these are the premises of demand 3
 pub with-none-answered : (n : ℕ) (h : Story) (x : Lent) → AbandonedBut n h x
     → NoneAnswered n (h .user) (h .entry) (h .between) (afterCall (openingCall h) (final (h .before) x)) → Abandoned h x
-with-none-answered n h x a t = record { opened = a .opened; quietly = quietly-with n (h .user) (h .entry) (h .between) _ (a .quietly) t; noLoad = a .noLoad }
+with-none-answered n h x a t = record { opened = a .opened; quietly = each-both _ _ _ (λ c y. quiet-with n (h .user) (h .entry) c (answeredAs c y)) (h .between) _ (a .quietly) t; noLoad = a .noLoad }
 
 -- ---- but that a run is taken for what it is answered: what stops it after some elements is not seen
 
 abbrev pub QuietByAnswer : ℕ → ℕ → List Call → Lent → Type 0
-QuietByAnswer u e [] x = Unit {0}
-QuietByAnswer u e (c ∷ cs) x = T (quiet u e c (outcomeOn c x .answer)) × QuietByAnswer u e cs (afterCall c x)
+QuietByAnswer u e = Each (λ c x. T (quiet u e c (outcomeOn c x .answer)))
 
 pub record AbandonedByAnswer (h : Story) (x : Lent) : Type 0 where
   pub opened : T (isDone (outcomeOn (openingCall h) (final (h .before) x) .answer))
@@ -67,8 +61,7 @@ pub record AbandonedByAnswer (h : Story) (x : Lent) : Type 0 where
 
 -- the premise left out: no run but the user's on the entry is stopped by 9 or 14
 abbrev pub NoneStopped : ℕ → ℕ → List Call → Lent → Type 0
-NoneStopped u e [] x = Unit {0}
-NoneStopped u e (c ∷ cs) x = T (isOn u e c || not (crowded (refused (callRun c (x .store) (x .tables) .stop)))) × NoneStopped u e cs (afterCall c x)
+NoneStopped u e = Each (λ c x. T (isOn u e c || not (crowded (refused (callRun c (x .store) (x .tables) .stop)))))
 
 quiet-unstopped : (u e : ℕ) (c : Call) (a : Said) (n : ℕ) → T (quiet u e c a) → T (isOn u e c || not (crowded (refused n))) → T (quiet u e c (cond (eqb n 0) a (refused n)))
 quiet-unstopped u e c a n q t = go (eqb n 0)
@@ -81,15 +74,8 @@ quiet-unstopped u e c a n q t = go (eqb n 0)
     go true = q
     go false = and-intro (not (ends u e c && false)) (isOn u e c || not (crowded (refused n))) (never (ends u e c)) t
 
-quietly-unstopped : (u e : ℕ) (cs : List Call) (x : Lent) → QuietByAnswer u e cs x → NoneStopped u e cs x → Quiet u e cs x
-quietly-unstopped u e [] x q t = tt
-quietly-unstopped u e (c ∷ cs) x q t = (
-  quiet-unstopped u e c (outcomeOn c x .answer) (callRun c (x .store) (x .tables) .stop) (q .0) (t .0),
-  quietly-unstopped u e cs (afterCall c x) (q .1) (t .1),
-)
-
 pub with-none-stopped : (h : Story) (x : Lent) → AbandonedByAnswer h x → NoneStopped (h .user) (h .entry) (h .between) (afterCall (openingCall h) (final (h .before) x)) → Abandoned h x
-with-none-stopped h x a t = record { opened = a .opened; quietly = quietly-unstopped (h .user) (h .entry) (h .between) _ (a .quietly) t; noLoad = a .noLoad }
+with-none-stopped h x a t = record { opened = a .opened; quietly = each-both _ _ _ (λ c y. quiet-unstopped (h .user) (h .entry) c (outcomeOn c y .answer) (callRun c (y .store) (y .tables) .stop)) (h .between) _ (a .quietly) t; noLoad = a .noLoad }
 
 -- ---- but that an image may be loaded after the abandonment
 

@@ -11,33 +11,18 @@ use Rattle.placing.specs.Sizes.{entryOf}
 use Rattle.rules.specs.Calls.{Request, Run, Call, starts, asks, on, runs}
 use Rattle.cells.specs.Outcomes.{Lent}
 use Rattle.proof_calls_sound.specs.Keeps.{keeps-sound}
-use Rattle.demands.specs.History.{outcomeOn, afterCall, viewOn, final, those, Each, toldAll}
+use Rattle.demands.specs.History.{outcomeOn, afterCall, viewOn, final, those, toldAll}
 use Rattle.demands.specs.Hearing.{Fate, remains, leftFate, fateIn, hear, heard, heardOf, answeredAs}
 use Rattle.demands.specs.Demands.{Sound}
 use Rattle.demands.specs.Abandoning.{isOn, ending, quiet, Quiet, isLoad, NoLoad, isElsewhere, betweenFate, strike}
+use Rattle.demands.specs.laws.History.{those-those, each-passes, each-of}
 use Rattle.demands.specs.laws.Woven.{Unwinds, woven}
 use Rattle.proof_demand3.specs.Steps.{goes-on}
 use Rattle.proof_demand3.specs.Beside.{Beside, another-beside, another-told, own-beside, own-run-beside, later-told, later-seen}
 
--- ---- the calls that pass, in a history of their own
+-- ---- the fates of calls that pass, in a history of their own
 
 module _ (f : Call → Bool) where
-  those-those : (cs : List Call) → those f (those f cs) ≡ those f cs
-  those-those [] = refl
-  those-those (c ∷ cs) = go (f c) refl (those-those cs)
-    where
-      go : (b : Bool) → f c ≡ b → those f (those f cs) ≡ those f cs → those f (cond b (c ∷ those f cs) (those f cs)) ≡ cond b (c ∷ those f cs) (those f cs)
-      go true o q = rw o (ap (λ (l : List Call). c ∷ l) q)
-      go false o q = q
-
-  each-passes : (cs : List Call) (x : Lent) → Each (λ c y. T (f c)) (those f cs) x
-  each-passes [] x = tt
-  each-passes (c ∷ cs) x = go (f c) refl (each-passes cs)
-    where
-      go : (b : Bool) → f c ≡ b → ((y : Lent) → Each (λ c y. T (f c)) (those f cs) y) → Each (λ c y. T (f c)) (cond b (c ∷ those f cs) (those f cs)) x
-      go true o q = (rw o tt, q (afterCall c x))
-      go false o q = q x
-
   fates-of-those : (g : Call → Fate) (cs : List Call) → map (fateIn f g) (those f cs) ≡ map g (those f cs)
   fates-of-those g [] = refl
   fates-of-those g (c ∷ cs) = go (f c) refl (fates-of-those g cs)
@@ -46,10 +31,6 @@ module _ (f : Call → Bool) where
           → map (fateIn f g) (cond b (c ∷ those f cs) (those f cs)) ≡ map g (cond b (c ∷ those f cs) (those f cs))
       go true o q = rw o (ap (λ (l : List Fate). g c ∷ l) q)
       go false o q = q
-
-each-any : (cs : List Call) (x : Lent) → Each (λ c y. Unit {0}) cs x
-each-any [] x = tt
-each-any (c ∷ cs) x = (tt, each-any cs (afterCall c x))
 
 -- ---- a call by the entry
 
@@ -129,5 +110,5 @@ pub record LaterAlike (cs : List Call) (x y : Lent) : Type 0 where
 
 pub later-alike : (cs : List Call) (x y : Lent) → KnownSame x y → NoLoad cs x → LaterAlike cs x y
 later-alike cs x y k n =
-    let a = woven _ _ _ _ _ later cs cs x y refl n (each-any cs y) k in
+    let a = woven _ _ _ _ _ later cs cs x y refl n (each-of (λ c y. Unit {0}) (λ c y. tt) cs y) k in
     record { told = a .told; after = a .after }

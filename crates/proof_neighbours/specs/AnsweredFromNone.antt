@@ -31,7 +31,7 @@ use Rattle.model.specs.Step.{performOnModel, requestOnModel, runOnModel, step, 
 use Rattle.demands.specs.Private.{blotFile, blotOpening, blotOpenings, blotted, AnsweredFromNoneKnown}
 use Rattle.proof_requests_sound.specs.Allowed.{Allowed, Opens, a-new, an-old, Handles, an-end, a-freeing, a-filing, a-use}
 use Rattle.proof_neighbours.specs.Effects.{headed-owner}
-use Rattle.proof_neighbours.specs.Steps.{allowed-at, user-of}
+use Rattle.proof_neighbours.specs.Requests.{allowed-at, user-of}
 use Rattle.proof_neighbours.specs.Blotted.{file-whole, opening-whole, heads-stay, handles-stay, free-stays, opening-at, opening-set}
 
 -- what is his own he may read

@@ -9,7 +9,7 @@ use mathlib.Core.List.{List, map}
 use lib.Dec.{T, eqb, eqb→eq, eqb-refl}
 use lib.ListN.{length, getD, List·getD-map}
 use Rattle.combine.specs.Lists.{any}
-use Rattle.placing.specs.Sizes.{userOf, entryOf}
+use Rattle.placing.specs.Sizes.{greatestEntry, rowEntries, entries, entryOf, userOf}
 use Rattle.rules.specs.Readable.{mayRead}
 use Rattle.rules.specs.Headings.{Heading, Handle, Open, headOf, handleOf, passes}
 use Rattle.rules.specs.Rules.{isOwn, isPublic, hasName}
@@ -31,7 +31,7 @@ pub record Known (a : ℕ) (k : Files) : Type 0 where
   pub public : (n : List ℕ) → Single (passes (isPublic n)) (map headOf (k .records))
   pub tied : AllTied k
   pub quiet : NonePublic a k
-  pub entries : length (k .openings) ≡ 32
+  pub entries : length (k .openings) ≡ entries
 
 module _ (a : ℕ) (k : Files) (w : Known a k) where
   -- a file that he sees is at one place
@@ -112,8 +112,8 @@ module _ (a : ℕ) (h k : Files) (s : SeesSame a h k) (wh : Known a h) (wk : Kno
         let i = r .0 in
         let here : T (passes (opensIt p) (handleOf (getD (h .openings) i none))) = rw (List·getD-map handleOf (h .openings) i none) at (r .1) in
         let u : userOf i ≡ a = whose i (getD (h .openings) i none) refl here in
-        let e : ℕ = i - 4 * a in
-        let l : e ≤ 3 = omega (arith, u) in
+        let e : ℕ = i - rowEntries * a in
+        let l : e ≤ greatestEntry = omega (arith, u) in
         let ie : entryOf a e ≡ i = omega (arith, u) in
         let there : T (passes (opensIt q) (handleOf (getD (k .openings) i none))) =
         subst (λ (j : ℕ). T (passes (opensIt p) (handleOf (getD (h .openings) j none))) → T (passes (opensIt q) (handleOf (getD (k .openings) j none)))) ie

@@ -33,7 +33,7 @@ use Rattle.demands.specs.History.{outcomeOn, afterCall, viewOn}
 use Rattle.demands.specs.laws.Unsound.{refuses-unsound}
 use Rattle.demands.specs.Private.{isOf, LeavesOthers, WorksOnOwn, ChangesNoneKnown, ChangesNone}
 use Rattle.proof_neighbours.specs.AnsweredFromNone.{own-read}
-use Rattle.proof_neighbours.specs.Steps.{request-cases, allowed-at, user-of}
+use Rattle.proof_neighbours.specs.Requests.{request-cases, allowed-at, user-of}
 use Rattle.proof_neighbours.specs.Cells.{ties-view}
 
 module _ (u : ℕ) where

@@ -10,6 +10,7 @@ pub mod Twins
 pub mod Own
 pub mod Performed
 pub mod Quiet
+pub mod Requests
 pub mod Steps
 pub mod Cells
 pub mod Good

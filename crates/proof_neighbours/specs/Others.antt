@@ -9,7 +9,7 @@ use mathlib.Core.List.{List, [], _∷_}
 use lib.Dec.{T, eqb, T-not}
 use lib.ListN.{getD, set}
 use lib.Seq.{getD-set-other}
-use Rattle.placing.specs.Sizes.{entryOf, userOf}
+use Rattle.placing.specs.Sizes.{greatestEntry, entryOf, userOf}
 use Rattle.rules.specs.Readable.{mayRead}
 use Rattle.rules.specs.Headings.{Heading, Open, headOf, passes}
 use Rattle.rules.specs.Rules.{isOwn, isPublic, hasName}
@@ -29,7 +29,7 @@ entry-unseen a h k i y d s = record {
       (sym (getD-set-other (k .openings) i (entryOf a e) y none (λ q. d (other e l q)))) (s .mine e l);
 }
   where
-    other : (e : ℕ) → e ≤ 3 → entryOf a e ≡ i → userOf i ≡ a
+    other : (e : ℕ) → e ≤ greatestEntry → entryOf a e ≡ i → userOf i ≡ a
     other e l q = omega (arith, l, q)
 
 -- ---- a place that he sees nothing of, before and after

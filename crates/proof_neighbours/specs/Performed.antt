@@ -6,7 +6,7 @@ use mathlib.Core.Option.{Option, none, some}
 use mathlib.Core.List.{List}
 use lib.Dec.{T}
 use lib.ListN.{getD, replicate}
-use Rattle.placing.specs.Sizes.{entryOf}
+use Rattle.placing.specs.Sizes.{greatestUser, greatestEntry, entryOf}
 use Rattle.rules.specs.Readable.{mayRead}
 use Rattle.rules.specs.Headings.{Handle, Open, filing, opening, holds}
 use Rattle.rules.specs.Effects.{Deed, stays, firstLeaves, lastLeaves, stores, Delivered, plain, element, Effect}
@@ -43,7 +43,7 @@ shown-same a rs qs m n w f t em en = record {
   content = ap (λ (o : Option File). body (elementsOfFile o) (replicate (holds (openedAs w m (f .head))) true)) (em ∙ sym en);
 }
 
-module _ (a : ℕ) (h k : Files) (s : SeesSame a h k) (wh : Known a h) (wk : Known a k) (e : ℕ) (le : e ≤ 3) (la : a ≤ 7) where
+module _ (a : ℕ) (h k : Files) (s : SeesSame a h k) (wh : Known a h) (wk : Known a k) (e : ℕ) (le : e ≤ greatestEntry) (la : a ≤ greatestUser) where
   abbrev i : ℕ
   i = entryOf a e
 

@@ -11,7 +11,7 @@ use mathlib.Core.List.{List, [], _∷_, map}
 use lib.Dec.{T, not-T}
 use lib.ListN.{length, getD, set, List·getD-map}
 use lib.Seq.{getD-set-same, getD-set-other}
-use Rattle.placing.specs.Sizes.{entryOf}
+use Rattle.placing.specs.Sizes.{greatestUser, greatestEntry, entries, entryOf}
 use Rattle.rules.specs.Readable.{mayRead}
 use Rattle.rules.specs.laws.Readable.{mayReadAt}
 use Rattle.rules.specs.Headings.{Heading, Open, headOf, passes}
@@ -82,11 +82,11 @@ pub record Spot (a : ℕ) (rs qs : List (Option File)) (p q : ℕ) : Type 0 wher
   pub within : p < length rs
   pub inside : q < length qs
 
-module _ (a : ℕ) (h k : Files) (s : SeesSame a h k) (wh : Known a h) (wk : Known a k) (e : ℕ) (le : e ≤ 3) (la : a ≤ 7) where
+module _ (a : ℕ) (h k : Files) (s : SeesSame a h k) (wh : Known a h) (wk : Known a k) (e : ℕ) (le : e ≤ greatestEntry) (la : a ≤ greatestUser) where
   abbrev i : ℕ
   i = entryOf a e
 
-  at-entry : (l : List (Option (Open Body))) (y : Option (Open Body)) → length l ≡ 32 → getD (set l i y) i none ≡ y
+  at-entry : (l : List (Option (Open Body))) (y : Option (Open Body)) → length l ≡ entries → getD (set l i y) i none ≡ y
   at-entry l y n = getD-set-same l i y none (omega (arith, n, le, la))
 
   -- another entry of his is as it was
@@ -98,7 +98,7 @@ module _ (a : ℕ) (h k : Files) (s : SeesSame a h k) (wh : Known a h) (wk : Kno
       → SeesSame a (house (h .segments) (h .records) (set (h .openings) i x)) (house (k .segments) (k .records) (set (k .openings) i y))
   entry-same x y t = record { own = s .own; public = s .public; mine = λ d l. go d l (ℕ-discrete d e) }
     where
-      go : (d : ℕ) → d ≤ 3 → Dec (d ≡ e)
+      go : (d : ℕ) → d ≤ greatestEntry → Dec (d ≡ e)
           → SameEntry a (h .records) (k .records) (getD (set (h .openings) i x) (entryOf a d) none) (getD (set (k .openings) i y) (entryOf a d) none)
       go d l (yes q) = rw (q, at-entry (h .openings) x (wh .entries), at-entry (k .openings) y (wk .entries)) t
       go d l (no n) = rw (at-other (h .openings) x d n, at-other (k .openings) y d n) (s .mine d l)
@@ -168,7 +168,7 @@ module _ (a : ℕ) (h k : Files) (s : SeesSame a h k) (wh : Known a h) (wk : Kno
       mine = λ d l. go d l (ℕ-discrete d e);
     }
       where
-        go : (d : ℕ) → d ≤ 3 → Dec (d ≡ e)
+        go : (d : ℕ) → d ≤ greatestEntry → Dec (d ≡ e)
             → SameEntry a (set (h .records) p y) (set (k .records) q y) (getD (set (h .openings) i none) (entryOf a d) none) (getD (set (k .openings) i none) (entryOf a d) none)
         go d l (yes q) = rw (q, at-entry (h .openings) none (wh .entries), at-entry (k .openings) none (wk .entries)) tt
         go d l (no n) = rw (at-other (h .openings) none d n, at-other (k .openings) none d n)

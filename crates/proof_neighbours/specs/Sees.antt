@@ -6,7 +6,7 @@ use mathlib.Core.Option.{Option, none, some}
 use mathlib.Core.List.{List, [], _∷_}
 use lib.Dec.{T}
 use lib.ListN.{getD}
-use Rattle.placing.specs.Sizes.{entryOf}
+use Rattle.placing.specs.Sizes.{greatestEntry, entryOf}
 use Rattle.rules.specs.Headings.{Heading, Open, headOf, passes}
 use Rattle.rules.specs.Readable.{mayRead}
 use Rattle.rules.specs.Rules.{isOwn, isPublic}
@@ -45,4 +45,4 @@ SameEntry a rs qs (some x) (some y) = SameOpening a rs qs x y
 pub record SeesSame (a : ℕ) (h k : Files) : Type 0 where
   pub own : (n : List ℕ) → found (isOwn a n) (h .records) ≡ found (isOwn a n) (k .records)
   pub public : (n : List ℕ) → found (isPublic n) (h .records) ≡ found (isPublic n) (k .records)
-  pub mine : (e : ℕ) → e ≤ 3 → SameEntry a (h .records) (k .records) (getD (h .openings) (entryOf a e) none) (getD (k .openings) (entryOf a e) none)
+  pub mine : (e : ℕ) → e ≤ greatestEntry → SameEntry a (h .records) (k .records) (getD (h .openings) (entryOf a e) none) (getD (k .openings) (entryOf a e) none)

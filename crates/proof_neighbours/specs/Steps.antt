@@ -1,7 +1,6 @@
 -- A request on the state as its users know it: another's private one changes nothing that the landlord sees; his own is answered the same, and leaves
 -- what he sees the same. Assumes nothing.
 use Prim.Native.Nat.{ℕ, _≤_}
-use native.Mathlib.Omega.{arith}
 use mathlib.Core.Path.{_≡_, refl, sym, ap, _∙_, subst}
 use mathlib.Core.Logic.{_≢_}
 use mathlib.Core.Bool.{Bool, true, false, not, _&&_, cond}
@@ -11,61 +10,31 @@ use lib.Dec.{T}
 use lib.ListN.{getD}
 use Rattle.combine.specs.Verdict.{Verdict, refused, done, isDone, onDone}
 use Rattle.combine.specs.laws.Beside.{Beside}
-use Rattle.combine.specs.Outcome.{Outcome, outcomeOf, settle}
+use Rattle.combine.specs.Outcome.{Outcome, settle}
 use Rattle.placing.specs.Sizes.{greatestUser, greatestEntry, entryOf, userOf}
 use Rattle.names.specs.Names.{isScratch}
 use Rattle.rules.specs.Calls.{Request, opens, closes, abandons, uses}
-use Rattle.rules.specs.Headings.{Heading, Handle, Open, headOf, handleOf}
+use Rattle.rules.specs.Headings.{Heading, Handle, Open, headOf}
 use Rattle.rules.specs.Effects.{Effect, filed, used, ended, Others}
 use Rattle.rules.specs.Access.{acting}
 use Rattle.rules.specs.Rules.{headed, placeFor, vanish, closeRule, rule}
 use Rattle.rules.specs.laws.Gates.{gate-related}
 use Rattle.rules.specs.House.{changed, othersOf}
 use Rattle.rules.specs.Levels.{perform, ruled, orBlank}
-use Rattle.model.specs.Model.{Body, Files, Model, model, modelLevel}
+use Rattle.model.specs.Model.{Body, Files, Model, modelLevel}
 use Rattle.model.specs.Step.{performOnModel, requestOnModel}
 use Rattle.proof_requests_sound.specs.Verdicts.{Has, has, has-onDone, has-done}
 use Rattle.proof_requests_sound.specs.Uses.{Usable, usable-acting}
-use Rattle.proof_requests_sound.specs.Allowed.{Allowed, allowed-rule}
+use Rattle.proof_requests_sound.specs.Allowed.{Allowed}
 use Rattle.proof_neighbours.specs.Neighbours.{opensPublic, NonePublic, asksOpenly, hinders}
 use Rattle.proof_neighbours.specs.Sees.{SamePlace, SameEntry, SeesSame}
+use Rattle.proof_neighbours.specs.Requests.{request-cases, allowed-at, user-of}
 use Rattle.proof_neighbours.specs.Effects.{privately, opens-unseen, handles-unseen}
 use Rattle.proof_neighbours.specs.Busy.{Known}
 use Rattle.proof_neighbours.specs.Twins.{sat, same-sat, Twin}
 use Rattle.proof_neighbours.specs.Own.{Free, open-same, closed-same}
 use Rattle.proof_neighbours.specs.Quiet.{quiet-opens, quiet-handles}
 use Rattle.proof_neighbours.specs.Performed.{performed-same}
-
--- ---- refused, or an effect
-
-pub request-cases : (P : Outcome Model → Type 0) (r : Request) (u e : ℕ) (m : Model) → ((n : ℕ) → P (outcomeOf (refused n) m))
-    → (u ≤ greatestUser → e ≤ greatestEntry → (f : Effect) → ruled modelLevel r u (m .house) (getD (m .house .openings) (entryOf u e) none) ≡ done f
-    → let c = perform modelLevel (m .house) (orBlank modelLevel (getD (m .house .openings) (entryOf u e) none)) f in
-    P (outcomeOf (done (c .answer)) (model (m .cells) (changed (m .house) (entryOf u e) c))))
-    → P (requestOnModel r u e m)
-unfolding requestOnModel settle
-request-cases P r u e m stop gone =
-    gate-related (λ v w. P (settle m v)) stop true u e judged judged (λ lu le. go lu le (ruled modelLevel r u (m .house) z) refl)
-  where
-    z : Option (Open Body)
-    z = getD (m .house .openings) (entryOf u e) none
-
-    judged : Verdict (ℕ × Model)
-    judged = onDone (performOnModel m (entryOf u e) (orBlank modelLevel z)) (ruled modelLevel r u (m .house) z)
-
-    go : u ≤ greatestUser → e ≤ greatestEntry → (v : Verdict Effect) → ruled modelLevel r u (m .house) z ≡ v
-        → P (settle m (onDone (performOnModel m (entryOf u e) (orBlank modelLevel z)) v))
-    go lu le (refused n) ev = stop n
-    go lu le (done f) ev = gone lu le f ev
-
-pub allowed-at : (r : Request) (u : ℕ) (h : Files) (z : Option (Open Body)) (f : Effect) → ruled modelLevel r u h z ≡ done f
-    → Allowed u (map headOf (h .records)) (modelLevel .takes h (orBlank modelLevel z)) (othersOf (modelLevel .room h) (h .openings)) (handleOf z) f
-allowed-at r u h z f ev =
-    has-done (Allowed u (map headOf (h .records)) (modelLevel .takes h (orBlank modelLevel z)) (othersOf (modelLevel .room h) (h .openings)) (handleOf z))
-    (ruled modelLevel r u h z) f (allowed-rule u (map headOf (h .records)) (modelLevel .takes h (orBlank modelLevel z)) (othersOf (modelLevel .room h) (h .openings)) r (handleOf z)) ev
-
-pub user-of : (u e : ℕ) → e ≤ 3 → userOf (entryOf u e) ≡ u
-user-of u e l = omega (arith, l)
 
 -- ---- a filing is private, where the close is
 
@@ -121,7 +90,7 @@ module _ (a : ℕ) (h : Files) (m : Model) (s : SeesSame a h (m .house)) (w : Kn
   abbrev Unseen : Files → Type 0
   Unseen n = SeesSame a h n × NonePublic a n
 
-  effect-unseen : d ≤ 3 → (z : Option (Open Body)) → getD (k .openings) i none ≡ z → (f : Effect) → ruled modelLevel r v k z ≡ done f
+  effect-unseen : d ≤ greatestEntry → (z : Option (Open Body)) → getD (k .openings) i none ≡ z → (f : Effect) → ruled modelLevel r v k z ≡ done f
       → T (not (asksOpenly r i (changed k i (perform modelLevel k (orBlank modelLevel z) f)))) → Unseen (changed k i (perform modelLevel k (orBlank modelLevel z) f))
   effect-unseen ld none iz f ev t = (
     opens-unseen a h k s (w .quiet) (w .tied) i far v (map headOf (k .records)) (othersOf (modelLevel .room k) (k .openings)) (orBlank modelLevel none) f (allowed-at r v k none f ev),
@@ -148,7 +117,7 @@ module _ (a : ℕ) (h : Files) (m : Model) (s : SeesSame a h (m .house)) (w : Kn
 -- ---- his own
 
 module _ (a : ℕ) (m : Model) (w : Known a (m .house)) (e : ℕ) (r : Request) where
-  own-effect : e ≤ 3 → (z : Option (Open Body)) → getD (m .house .openings) (entryOf a e) none ≡ z → (f : Effect) → ruled modelLevel r a (m .house) z ≡ done f
+  own-effect : e ≤ greatestEntry → (z : Option (Open Body)) → getD (m .house .openings) (entryOf a e) none ≡ z → (f : Effect) → ruled modelLevel r a (m .house) z ≡ done f
       → NonePublic a (changed (m .house) (entryOf a e) (perform modelLevel (m .house) (orBlank modelLevel z) f))
   own-effect le none iz f ev =
       quiet-opens a (m .house) w (entryOf a e) a (map headOf (m .house .records)) (othersOf (modelLevel .room (m .house)) (m .house .openings)) (orBlank modelLevel none) f (allowed-at r a (m .house) none f ev)
@@ -167,7 +136,7 @@ module _ (a : ℕ) (m n : Model) (s : SeesSame a (m .house) (n .house)) (wm : Kn
       T (not (hinders (o .answer))) → T (not (hinders (p .answer)))
       → (o .answer ≡ p .answer) × (Known a (o .after .house) → Known a (p .after .house) → SeesSame a (o .after .house) (p .after .house))
 
-  module _ (le : e ≤ 3) (la : a ≤ 7) where
+  module _ (le : e ≤ greatestEntry) (la : a ≤ greatestUser) where
     settled-same : (x : Open Body) (q : Option ℕ) → SamePlace a (m .house .records) (n .house .records) (x .handle .place) q → (v w : Verdict Effect)
         → Beside Free Free (Twin a (m .house .records) (n .house .records) x q) v w
         → Alike (settle m (onDone (performOnModel m (entryOf a e) x) v)) (settle n (onDone (performOnModel n (entryOf a e) (sat x q)) w))

@@ -8,7 +8,7 @@ use mathlib.Core.Option.{Option, none, some}
 use mathlib.Core.List.{List}
 use lib.Dec.{T}
 use lib.ListN.{getD}
-use Rattle.placing.specs.Sizes.{entryOf}
+use Rattle.placing.specs.Sizes.{greatestEntry, entryOf}
 use Rattle.rules.specs.Readable.{mayRead}
 use Rattle.rules.specs.Headings.{Heading, Handle, Open, opening}
 use Rattle.rules.specs.Effects.{Effect, opensNew, opensOld, ended, unfiled, filed, used, Use}
@@ -48,7 +48,7 @@ place-refl : (a : ℕ) (rs : List (Option File)) (m : Option ℕ) → ((p : ℕ)
 place-refl a rs none h = tt
 place-refl a rs (some m) h = let f = h m refl in (f .0, f .1, f .2, f .2)
 
-entry-refl : (a : ℕ) (h : Files) → Known a h → (e : ℕ) → e ≤ 3 → (x : Option (Open Body)) → getD (h .openings) (entryOf a e) none ≡ x → SameEntry a (h .records) (h .records) x x
+entry-refl : (a : ℕ) (h : Files) → Known a h → (e : ℕ) → e ≤ greatestEntry → (x : Option (Open Body)) → getD (h .openings) (entryOf a e) none ≡ x → SameEntry a (h .records) (h .records) x x
 entry-refl a h w e l none ix = tt
 entry-refl a h w e l (some x) ix = record {
   place = place-refl a (h .records) (x .handle .place)
