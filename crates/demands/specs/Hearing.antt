@@ -8,7 +8,7 @@ use Rattle.cells.specs.Outcomes.{Lent, callRun}
 use Rattle.model.specs.Step.{Report}
 use Rattle.demands.specs.History.{outcomeOn, toldAll}
 
--- its answer stays; it counts free segments, and where it is done its number may differ; it is struck out itself
+-- what becomes of a call: its answer stays; it counts free segments, and where it is done its number may differ; it is struck out itself
 pub data Fate : Type 0 where
   remains counts struck : Fate
 
@@ -26,6 +26,7 @@ leftFate c = cond (isCount c) counts remains
 abbrev pub fateIn : (Call → Bool) → (Call → Fate) → Call → Fate
 fateIn f g c = cond (f c) (g c) struck
 
+-- what is heard of one call
 abbrev pub hear : Fate → Report → List Report
 hear remains a = a ∷ []
 hear counts a = cond (isDone (a .answer)) [] (a ∷ [])

@@ -73,12 +73,12 @@ hindered c x = hinders (answeredAs c x)
 
 -- ---- the statement
 
--- the landlord's call is not hindered; another's is not done openly. By what hinders, and what is open
-abbrev pub Apart : (Call → Lent → Bool) → (Call → SegmentHouse → Bool) → (landlord : ℕ) → Call → Lent → Type 0
+-- the landlord's call is not hindered; another's is not done openly. By what hindrance is, and openness
+abbrev pub Apart : (hindrance : Call → Lent → Bool) (openness : Call → SegmentHouse → Bool) (landlord : ℕ) → Call → Lent → Type 0
 Apart hin op a c x = T (cond (isOf a c) (not (hin c x)) (not (isDone (outcomeOn c x .answer) && op c (houseOf (afterCall c x .tables)))))
 
 -- "two histories from one store with the same calls by A in the same order": "A's answers and lists are the same". By its premises
-abbrev pub NeighboursBy : (Call → Lent → Bool) → (Call → SegmentHouse → Bool) → (ℕ → Lent → Type 0) → Type 0
+abbrev pub NeighboursBy : (hindrance : Call → Lent → Bool) (openness : Call → SegmentHouse → Bool) (start : ℕ → Lent → Type 0) → Type 0
 NeighboursBy hin op start =
     (a : ℕ) (cs ds : List Call) (x : Lent) → those (isOf a) cs ≡ those (isOf a) ds → start a x → Each (Apart hin op a) cs x → Each (Apart hin op a) ds x
     → heardBy a cs x ≡ heardBy a ds x
