@@ -9,7 +9,7 @@ pub mod Same
 pub mod Parts
 pub mod Between
 pub mod Verdict
-pub mod Beside
+pub mod SameBut
 pub mod Outcome
 pub mod Run
 pub mod Tests

@@ -8,14 +8,14 @@ use lib.Dec.{T, T-not, not-T}
 use lib.ListN.{getD}
 use Rattle.combine.specs.Verdict.{Verdict, refused}
 use Rattle.combine.specs.laws.Verdict.{Refuses}
-use Rattle.combine.specs.laws.Beside.{Beside, keep, skip, beside-onDone, beside-same}
+use Rattle.combine.specs.laws.SameBut.{SameBut, keep, skip, but-onDone, but-same}
 use Rattle.names.specs.Names.{nameOf}
 use Rattle.rules.specs.Calls.{Way, new, work, read, Request, opens, closes, abandons, uses}
 use Rattle.rules.specs.Headings.{Heading, Handle}
 use Rattle.rules.specs.Effects.{Effect, Use, used, Others}
 use Rattle.rules.specs.Access.{acting}
 use Rattle.rules.specs.Rules.{busy, lookUp, openRecord, openOld, openWay, rule}
-use Rattle.rules.specs.laws.Acts.{moveTo, SameUse, acting-beside}
+use Rattle.rules.specs.laws.Acts.{moveTo, SameUse, acting-same}
 use Rattle.demands.specs.Abandoning.{crowded}
 use Rattle.proof_demand3.specs.Eased.{Eased}
 
@@ -25,7 +25,7 @@ Calm n = T (not (crowded (refused n)))
 
 -- the same, unless the first is refused by 9 or 14
 abbrev Same : Verdict Effect → Verdict Effect → Type 0
-Same = Beside Calm (λ n. Unit {0}) _≡_
+Same = SameBut Calm (λ n. Unit {0}) _≡_
 
 -- ---- a record is opened
 
@@ -45,8 +45,8 @@ module _ (u : ℕ) (o q : Others) (e : Eased o q) where
 
   way-eased : (w : Way) (rs : List (Option Heading)) → Refuses Calm (openWay w u rs o) → openWay w u rs q ≡ openWay w u rs o
   way-eased (new s) rs c = refl
-  way-eased (work n) rs c = beside-same Calm _ _ (old-eased true (nameOf n) rs) c
-  way-eased (read n) rs c = beside-same Calm _ _ (old-eased false (nameOf n) rs) c
+  way-eased (work n) rs c = but-same Calm _ _ (old-eased true (nameOf n) rs) c
+  way-eased (read n) rs c = but-same Calm _ _ (old-eased false (nameOf n) rs) c
 
   -- ---- an open file is used
 
@@ -72,6 +72,6 @@ module _ (u : ℕ) (o q : Others) (e : Eased o q) where
   rule-eased abandons rs (some h) takes c = refl
   rule-eased (uses a) rs none takes c = refl
   rule-eased (uses a) rs (some h) takes c =
-      beside-same Calm _ _
-      (beside-onDone Calm (λ n. Unit {0}) (SameUse h (h .place)) _≡_ used used (acting a takes (o .room) h) (acting a takes (q .room) h) (same-place h)
-      (acting-beside Calm (λ n. Unit {0}) h (h .place) takes (o .room) (q .room) (λ k. k) (λ k. e .room) a)) c
+      but-same Calm _ _
+      (but-onDone Calm (λ n. Unit {0}) (SameUse h (h .place)) _≡_ used used (acting a takes (o .room) h) (acting a takes (q .room) h) (same-place h)
+      (acting-same Calm (λ n. Unit {0}) h (h .place) takes (o .room) (q .room) (λ k. k) (λ k. e .room) a)) c

@@ -13,7 +13,7 @@ use Rattle.names.specs.Names.{nameOf, isScratch}
 use Rattle.rules.specs.Calls.{Way, new, work, read, Request, opens, closes, abandons, uses}
 use Rattle.rules.specs.Readable.{mayRead}
 use Rattle.rules.specs.laws.Readable.{mayReadAt, looked-up}
-use Rattle.rules.specs.laws.Acts.{placed, SameUse, acting-beside}
+use Rattle.rules.specs.laws.Acts.{placed, SameUse, acting-same}
 use Rattle.rules.specs.Headings.{Heading, Open, headOf, passes, isSome}
 use Rattle.rules.specs.Effects.{Effect, ended, filed, used, Use, Others}
 use Rattle.rules.specs.Access.{acting}
@@ -23,7 +23,7 @@ use Rattle.rules.specs.Levels.{ruled, orBlank}
 use Rattle.segments.specs.laws.Sound.{Single}
 use Rattle.model.specs.Model.{File, Body, Files, modelLevel}
 use Rattle.combine.specs.Verdict.{refused}
-use Rattle.combine.specs.laws.Beside.{Beside, keep, skip, beside-onDone}
+use Rattle.combine.specs.laws.SameBut.{SameBut, keep, skip, but-onDone}
 use Rattle.combine.specs.laws.Tests.{true-of, or-second}
 use Rattle.combine.specs.laws.Replaced.{first-where, place-below}
 use Rattle.proof_neighbours.specs.Neighbours.{hinders}
@@ -34,8 +34,8 @@ use Rattle.proof_neighbours.specs.Refiled.{SeenOr, Spot}
 use Rattle.proof_neighbours.specs.Twins.{sees-sym, sat, Twin, news, olds, ends, frees, files, acts}
 
 -- neither 9 nor 17
-abbrev pub Free : ℕ → Type 0
-Free n = T (not (hinders (refused n)))
+abbrev pub Unhindered : ℕ → Type 0
+Unhindered n = T (not (hinders (refused n)))
 
 module _ (a : ℕ) (h k : Files) (s : SeesSame a h k) (wh : Known a h) (wk : Known a k) where
   abbrev rs : List (Option File)
@@ -66,17 +66,17 @@ module _ (a : ℕ) (h k : Files) (s : SeesSame a h k) (wh : Known a h) (wk : Kno
     Twins f g = Twin a rs qs x q f g
 
     record-same : (w : Bool) (m n : ℕ) (o : Option File) → getD rs m none ≡ o → getD qs n none ≡ o → SeenOr a o
-        → Beside Free Free Twins (openRecord w a m (headOf o) here) (openRecord w a n (headOf o) there)
+        → SameBut Unhindered Unhindered Twins (openRecord w a m (headOf o) here) (openRecord w a n (headOf o) there)
     record-same w m n none em en t = λ c d. refl
     record-same w m n (some f) em en t =
-        keep Free Free Twins 13 _ _ _ _ refl (λ h13. keep Free Free Twins 14 _ _ _ _ (busy-same w f t m n em en) (λ h14. olds m n w f t em en))
+        keep Unhindered Unhindered Twins 13 _ _ _ _ refl (λ h13. keep Unhindered Unhindered Twins 14 _ _ _ _ (busy-same w f t m n em en) (λ h14. olds m n w f t em en))
 
-    old-same : (w : Bool) (n : List ℕ) → Beside Free Free Twins (openOld w a n (map headOf rs) here) (openOld w a n (map headOf qs) there)
+    old-same : (w : Bool) (n : List ℕ) → SameBut Unhindered Unhindered Twins (openOld w a n (map headOf rs) here) (openOld w a n (map headOf qs) there)
     unfolding openOld
     old-same w n =
-        keep Free Free Twins 15 _ _ _ _ refl (λ h15.
-        subst (λ (z : Option Heading). Beside Free Free Twins (openRecord w a m z here) (openRecord w a l (getD (map headOf qs) l none) there)) (sym (List·getD-map headOf rs m none))
-        (subst (λ (z : Option Heading). Beside Free Free Twins (openRecord w a m (headOf (getD rs m none)) here) (openRecord w a l z there)) (sym (List·getD-map headOf qs l none ∙ ap headOf el))
+        keep Unhindered Unhindered Twins 15 _ _ _ _ refl (λ h15.
+        subst (λ (z : Option Heading). SameBut Unhindered Unhindered Twins (openRecord w a m z here) (openRecord w a l (getD (map headOf qs) l none) there)) (sym (List·getD-map headOf rs m none))
+        (subst (λ (z : Option Heading). SameBut Unhindered Unhindered Twins (openRecord w a m (headOf (getD rs m none)) here) (openRecord w a l z there)) (sym (List·getD-map headOf qs l none ∙ ap headOf el))
         (record-same w m l (getD rs m none) refl el (subst (λ (z : Option Heading). T (mayReadAt a z)) (List·getD-map headOf rs m none) (looked-up a n (map headOf rs))))))
       where
         m : ℕ
@@ -88,11 +88,11 @@ module _ (a : ℕ) (h k : Files) (s : SeesSame a h k) (wh : Known a h) (wk : Kno
         el : getD qs l none ≡ getD rs m none
         el = sym (look-up-same a h k s n)
 
-    new-same : (sp : ℕ) → Beside Free Free Twins (openNew sp) (openNew sp)
+    new-same : (sp : ℕ) → SameBut Unhindered Unhindered Twins (openNew sp) (openNew sp)
     unfolding openNew
-    new-same sp = keep Free Free Twins 19 _ _ _ _ refl (λ h19. news (newHandle sp) refl)
+    new-same sp = keep Unhindered Unhindered Twins 19 _ _ _ _ refl (λ h19. news (newHandle sp) refl)
 
-    way-same : (w : Way) → Beside Free Free Twins (openWay w a (map headOf rs) here) (openWay w a (map headOf qs) there)
+    way-same : (w : Way) → SameBut Unhindered Unhindered Twins (openWay w a (map headOf rs) here) (openWay w a (map headOf qs) there)
     way-same (new sp) = new-same sp
     way-same (work bytes) = old-same true (nameOf bytes)
     way-same (read bytes) = old-same false (nameOf bytes)
@@ -145,10 +145,10 @@ module _ (a : ℕ) (h k : Files) (s : SeesSame a h k) (wh : Known a h) (wk : Kno
     vanish-same (some m) (some n) t =
         frees m n (record { filed = some (t .0); here = t .2; there = t .3; sees = t .1; within = place-below rs m (t .0) (t .2); inside = place-below qs n (t .0) (t .3) })
 
-    close-same : (b : Bool) → Beside Free Free (Twin a rs qs x q) (closeRule b a (map headOf rs) (x .handle)) (closeRule b a (map headOf qs) (placed (x .handle) q))
+    close-same : (b : Bool) → SameBut Unhindered Unhindered (Twin a rs qs x q) (closeRule b a (map headOf rs) (x .handle)) (closeRule b a (map headOf qs) (placed (x .handle) q))
     unfolding closeRule headed
     close-same b =
-        keep Free Free Twins' 18 _ _ _ _ refl (λ h18. keep Free Free Twins' 16 _ _ _ _ same16 (λ h16. skip Free Free Twins' 17 _ _ _ _ (λ k. absurd k) (λ t k. absurd k) (λ h17 k17. go files' h17 k17)))
+        keep Unhindered Unhindered Twins' 18 _ _ _ _ refl (λ h18. keep Unhindered Unhindered Twins' 16 _ _ _ _ same16 (λ h16. skip Unhindered Unhindered Twins' 17 _ _ _ _ (λ k. absurd k) (λ t k. absurd k) (λ h17 k17. go files' h17 k17)))
       where
         Twins' : Effect → Effect → Type 0
         Twins' = Twin a rs qs x q
@@ -179,20 +179,20 @@ module _ (a : ℕ) (h k : Files) (s : SeesSame a h k) (wh : Known a h) (wk : Kno
             end false = ends
 
     -- at an open entry
-    pub open-same : (r : Request) → Beside Free Free (Twin a rs qs x q) (ruled modelLevel r a h (some x)) (ruled modelLevel r a k (some (sat x q)))
+    pub open-same : (r : Request) → SameBut Unhindered Unhindered (Twin a rs qs x q) (ruled modelLevel r a h (some x)) (ruled modelLevel r a k (some (sat x q)))
     open-same (opens w) = λ c d. refl
     open-same (closes b) = close-same b
     open-same abandons = ends
     open-same (uses act) =
-        beside-onDone Free Free (SameUse (x .handle) q) (Twin a rs qs x q) used used (acting act takes (modelLevel .room h) (x .handle)) (acting act takes (modelLevel .room k) (placed (x .handle) q))
+        but-onDone Unhindered Unhindered (SameUse (x .handle) q) (Twin a rs qs x q) used used (acting act takes (modelLevel .room h) (x .handle)) (acting act takes (modelLevel .room k) (placed (x .handle) q))
         (λ u v t. subst (λ (y : Use). Twin a rs qs x q (used u) (used y)) (sym (t .1)) (acts u (t .0)))
-        (acting-beside Free Free (x .handle) q takes (modelLevel .room h) (modelLevel .room k) (λ t. t) (λ t. absurd t) act)
+        (acting-same Unhindered Unhindered (x .handle) q takes (modelLevel .room h) (modelLevel .room k) (λ t. t) (λ t. absurd t) act)
       where
         takes : ℕ → Bool
         takes = modelLevel .takes h x
 
   -- at a closed one
-  pub closed-same : (r : Request) → Beside Free Free (Twin a rs qs (orBlank modelLevel none) none) (ruled modelLevel r a h none) (ruled modelLevel r a k none)
+  pub closed-same : (r : Request) → SameBut Unhindered Unhindered (Twin a rs qs (orBlank modelLevel none) none) (ruled modelLevel r a h none) (ruled modelLevel r a k none)
   closed-same (opens w) = way-same (orBlank modelLevel none) none w
   closed-same (closes b) = λ c d. refl
   closed-same abandons = λ c d. refl

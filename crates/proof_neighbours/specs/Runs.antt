@@ -26,7 +26,7 @@ use Rattle.demands.specs.laws.Hearing.{unstopped}
 use Rattle.proof_neighbours.specs.Neighbours.{hinders, hindered}
 use Rattle.proof_neighbours.specs.Sees.{SameEntry}
 use Rattle.proof_neighbours.specs.Twins.{sat, same-sat}
-use Rattle.proof_neighbours.specs.Own.{Free}
+use Rattle.proof_neighbours.specs.Own.{Unhindered}
 use Rattle.proof_neighbours.specs.Good.{Good, other-good, own-answer, own-good}
 
 module _ (a : ℕ) where
@@ -73,22 +73,22 @@ module _ (a : ℕ) where
         (getD (viewOn x .house .openings) (entryOf a d) none) (getD (viewOn y .house .openings) (entryOf a d) none) (g .sees .mine d ld))
         ∙ sym (admission-known a d r y (g .soundThere))
 
-    one-alike : (q : Request) (z w : Lent) → Good a z w → Refuses Free (single a d q z .answer) → Refuses Free (single a d q w .answer)
+    one-alike : (q : Request) (z w : Lent) → Good a z w → Refuses Unhindered (single a d q z .answer) → Refuses Unhindered (single a d q w .answer)
         → (single a d q z .answer ≡ single a d q w .answer) × Good a (single a d q z .after) (single a d q w .after)
     one-alike q z w k s t =
         let here = refuses-test hinders (λ n. tt) (single a d q z .answer) s in
         let there = refuses-test hinders (λ n. tt) (single a d q w .answer) t in
         (own-answer a z w k d q here there, own-good a z w k d q here there)
 
-    free-stop : (z : Lent) → T (not (hindered (runs a d r) z)) → Free (runOut r (z .store) (z .tables) a d .stop)
-    free-stop z t = unstopped hinders (runOut r (z .store) (z .tables) a d .stop) (runAnswer (runOut r (z .store) (z .tables) a d)) tt t
+    unhindered-stop : (z : Lent) → T (not (hindered (runs a d r) z)) → Unhindered (runOut r (z .store) (z .tables) a d .stop)
+    unhindered-stop z t = unstopped hinders (runOut r (z .store) (z .tables) a d .stop) (runAnswer (runOut r (z .store) (z .tables) a d)) tt t
 
     module _ (p : T (not (hindered (runs a d r) x))) (q : T (not (hindered (runs a d r) y))) where
       own-run : Related (Good a) (runOut r (x .store) (x .tables) a d) (runOut r (y .store) (y .tables) a d)
       unfolding runOut
-      own-run = subst (λ (v : Said). Free (admitted y v there .stop) → Related (Good a) (admitted x (judged x) here) (admitted y v there)) judged-same
-          (λ t. admitted-related (Good a) Free Free x y (judged x) here there g (free-stop x p) t (λ s u. run-related (Good a) (single a d) (single a d) Free Free one-alike (requestsOf r) x y g s u))
-          (free-stop y q)
+      own-run = subst (λ (v : Said). Unhindered (admitted y v there .stop) → Related (Good a) (admitted x (judged x) here) (admitted y v there)) judged-same
+          (λ t. admitted-related (Good a) Unhindered Unhindered x y (judged x) here there g (unhindered-stop x p) t (λ s u. run-related (Good a) (single a d) (single a d) Unhindered Unhindered one-alike (requestsOf r) x y g s u))
+          (unhindered-stop y q)
         where
           here : Ran Lent
           here = runOver (single a d) (requestsOf r) x

@@ -9,7 +9,7 @@ use mathlib.Core.List.{List, map}
 use lib.Dec.{T}
 use lib.ListN.{getD}
 use Rattle.combine.specs.Verdict.{Verdict, refused, done, isDone, onDone}
-use Rattle.combine.specs.laws.Beside.{Beside}
+use Rattle.combine.specs.laws.SameBut.{SameBut}
 use Rattle.combine.specs.Outcome.{Outcome, settle}
 use Rattle.placing.specs.Sizes.{greatestUser, greatestEntry, entryOf, userOf}
 use Rattle.names.specs.Names.{isScratch}
@@ -32,7 +32,7 @@ use Rattle.proof_neighbours.specs.Requests.{request-cases, allowed-at, u
 use Rattle.proof_neighbours.specs.Effects.{privately, opens-unseen, handles-unseen}
 use Rattle.proof_neighbours.specs.Busy.{Known}
 use Rattle.proof_neighbours.specs.Twins.{sat, same-sat, Twin}
-use Rattle.proof_neighbours.specs.Own.{Free, open-same, closed-same}
+use Rattle.proof_neighbours.specs.Own.{Unhindered, open-same, closed-same}
 use Rattle.proof_neighbours.specs.Quiet.{quiet-opens, quiet-handles}
 use Rattle.proof_neighbours.specs.Performed.{performed-same}
 
@@ -138,7 +138,7 @@ module _ (a : ℕ) (m n : Model) (s : SeesSame a (m .house) (n .house)) (wm : Kn
 
   module _ (le : e ≤ greatestEntry) (la : a ≤ greatestUser) where
     settled-same : (x : Open Body) (q : Option ℕ) → SamePlace a (m .house .records) (n .house .records) (x .handle .place) q → (v w : Verdict Effect)
-        → Beside Free Free (Twin a (m .house .records) (n .house .records) x q) v w
+        → SameBut Unhindered Unhindered (Twin a (m .house .records) (n .house .records) x q) v w
         → Alike (settle m (onDone (performOnModel m (entryOf a e) x) v)) (settle n (onDone (performOnModel n (entryOf a e) (sat x q)) w))
     unfolding settle
     settled-same x q same (refused i) (refused j) b = λ t u. (ap refused (b t u), λ zh zk. s)

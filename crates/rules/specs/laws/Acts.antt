@@ -7,7 +7,7 @@ use mathlib.Core.Option.{Option}
 use mathlib.Core.List.{List}
 use lib.Dec.{T, eqb}
 use Rattle.combine.specs.Verdict.{Verdict}
-use Rattle.combine.specs.laws.Beside.{Beside, keep, skip}
+use Rattle.combine.specs.laws.SameBut.{SameBut, keep, skip}
 use Rattle.names.specs.Names.{nameOf}
 use Rattle.rules.specs.Calls.{Act, rename, reset, newPointer, deletePointer, write, next, prev, askSpecies, askClaim, askPermit, askSymbol, askBegin, askEnd, askValue}
 use Rattle.rules.specs.Headings.{Handle, value}
@@ -35,51 +35,51 @@ no-less-room true false s e t = absurd t
 -- 9 is excepted here; and there, or there is as much room
 module _ (P Q : ℕ → Type 0) (h : Handle) (q : Option ℕ) (takes : ℕ → Bool) (room room' : Bool) (here : P 9 → ⊥) (there : Q 9 → T room → T room') where
   abbrev Same : Verdict Use → Verdict Use → Type 0
-  Same = Beside P Q (SameUse h q)
+  Same = SameBut P Q (SameUse h q)
 
-  write-beside : (p n : ℕ) → Same (writeRule p n takes room h) (writeRule p n takes room' (placed h q))
+  write-same : (p n : ℕ) → Same (writeRule p n takes room h) (writeRule p n takes room' (placed h q))
   unfolding writeRule
-  write-beside p n =
+  write-same p n =
       keep P Q _ 4 _ _ _ _ refl (λ t. keep P Q _ 5 _ _ _ _ refl (λ t. keep P Q _ 6 _ _ _ _ refl (λ t. keep P Q _ 7 _ _ _ _ refl (λ t. keep P Q _ 10 _ _ _ _ refl (λ t.
       keep P Q _ 8 _ _ _ _ refl (λ t.
       skip P Q _ 9 _ _ _ _ (λ k. absurd (here k)) (λ t k. no-less-room (not (eqb p 0) && takes (value h p)) room room' (there k) t) (λ t u. (refl, refl))))))))
 
-  next-beside : (p : ℕ) → Same (nextRule p h) (nextRule p (placed h q))
+  next-same : (p : ℕ) → Same (nextRule p h) (nextRule p (placed h q))
   unfolding nextRule
-  next-beside p = keep P Q _ 4 _ _ _ _ refl (λ t. keep P Q _ 5 _ _ _ _ refl (λ t. keep P Q _ 6 _ _ _ _ refl (λ t. keep P Q _ 7 _ _ _ _ refl (λ t. (refl, refl)))))
+  next-same p = keep P Q _ 4 _ _ _ _ refl (λ t. keep P Q _ 5 _ _ _ _ refl (λ t. keep P Q _ 6 _ _ _ _ refl (λ t. keep P Q _ 7 _ _ _ _ refl (λ t. (refl, refl)))))
 
-  prev-beside : (p : ℕ) → Same (prevRule p h) (prevRule p (placed h q))
+  prev-same : (p : ℕ) → Same (prevRule p h) (prevRule p (placed h q))
   unfolding prevRule
-  prev-beside p = keep P Q _ 4 _ _ _ _ refl (λ t. keep P Q _ 5 _ _ _ _ refl (λ t. keep P Q _ 6 _ _ _ _ refl (λ t. keep P Q _ 7 _ _ _ _ refl (λ t. (refl, refl)))))
+  prev-same p = keep P Q _ 4 _ _ _ _ refl (λ t. keep P Q _ 5 _ _ _ _ refl (λ t. keep P Q _ 6 _ _ _ _ refl (λ t. keep P Q _ 7 _ _ _ _ refl (λ t. (refl, refl)))))
 
-  new-pointer-beside : (p : ℕ) → Same (newPointerRule p h) (newPointerRule p (placed h q))
+  new-pointer-same : (p : ℕ) → Same (newPointerRule p h) (newPointerRule p (placed h q))
   unfolding newPointerRule
-  new-pointer-beside p = keep P Q _ 4 _ _ _ _ refl (λ t. keep P Q _ 21 _ _ _ _ refl (λ t. (refl, refl)))
+  new-pointer-same p = keep P Q _ 4 _ _ _ _ refl (λ t. keep P Q _ 21 _ _ _ _ refl (λ t. (refl, refl)))
 
-  delete-pointer-beside : (p : ℕ) → Same (deletePointerRule p h) (deletePointerRule p (placed h q))
+  delete-pointer-same : (p : ℕ) → Same (deletePointerRule p h) (deletePointerRule p (placed h q))
   unfolding deletePointerRule
-  delete-pointer-beside p = keep P Q _ 4 _ _ _ _ refl (λ t. (refl, refl))
+  delete-pointer-same p = keep P Q _ 4 _ _ _ _ refl (λ t. (refl, refl))
 
-  value-beside : (p : ℕ) → Same (valueRule p h) (valueRule p (placed h q))
+  value-same : (p : ℕ) → Same (valueRule p h) (valueRule p (placed h q))
   unfolding valueRule
-  value-beside p = keep P Q _ 4 _ _ _ _ refl (λ t. (refl, refl))
+  value-same p = keep P Q _ 4 _ _ _ _ refl (λ t. (refl, refl))
 
-  rename-beside : (n : List ℕ) → Same (renameRule n h) (renameRule n (placed h q))
+  rename-same : (n : List ℕ) → Same (renameRule n h) (renameRule n (placed h q))
   unfolding renameRule
-  rename-beside n = keep P Q _ 5 _ _ _ _ refl (λ t. (refl, refl))
+  rename-same n = keep P Q _ 5 _ _ _ _ refl (λ t. (refl, refl))
 
-  pub acting-beside : (act : Act) → Same (acting act takes room h) (acting act takes room' (placed h q))
-  acting-beside (rename bytes) = rename-beside (nameOf bytes)
-  acting-beside reset = (refl, refl)
-  acting-beside (newPointer p) = new-pointer-beside p
-  acting-beside (deletePointer p) = delete-pointer-beside p
-  acting-beside (write p n) = write-beside p n
-  acting-beside (next p) = next-beside p
-  acting-beside (prev p) = prev-beside p
-  acting-beside askSpecies = (refl, refl)
-  acting-beside askClaim = (refl, refl)
-  acting-beside askPermit = (refl, refl)
-  acting-beside (askSymbol k) = (refl, refl)
-  acting-beside askBegin = (refl, refl)
-  acting-beside askEnd = (refl, refl)
-  acting-beside (askValue p) = value-beside p
+  pub acting-same : (act : Act) → Same (acting act takes room h) (acting act takes room' (placed h q))
+  acting-same (rename bytes) = rename-same (nameOf bytes)
+  acting-same reset = (refl, refl)
+  acting-same (newPointer p) = new-pointer-same p
+  acting-same (deletePointer p) = delete-pointer-same p
+  acting-same (write p n) = write-same p n
+  acting-same (next p) = next-same p
+  acting-same (prev p) = prev-same p
+  acting-same askSpecies = (refl, refl)
+  acting-same askClaim = (refl, refl)
+  acting-same askPermit = (refl, refl)
+  acting-same (askSymbol k) = (refl, refl)
+  acting-same askBegin = (refl, refl)
+  acting-same askEnd = (refl, refl)
+  acting-same (askValue p) = value-same p
