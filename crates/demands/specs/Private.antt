@@ -19,6 +19,7 @@ use Rattle.cells.specs.Outcomes.{Lent, lent}
 use Rattle.model.specs.Model.{File, Body, body, Files, Model, model}
 use Rattle.model.specs.Step.{step, stepTold}
 use Rattle.demands.specs.History.{afterCall, toldOf, viewOn}
+use Rattle.demands.specs.Demands.{Sound}
 
 -- the call is the user's: "operator's calls aren't A's"
 abbrev pub isOf : (user : ℕ) → Call → Bool
@@ -86,7 +87,10 @@ pub record SameInSight (user : ℕ) (h : SegmentHouse) (s s′ : Cells) : Type 0
   pub files : (p : ℕ) (r : SegmentRecord) → getD (h .records) p none ≡ some r → T (mayRead user (r .head)) → SameIn s s′ (r .content)
   pub openings : (i : ℕ) → userOf i ≡ user → SameIn s s′ (openingSegments (getD (h .openings) i none))
 
--- on any cells: the same is told, whatever the store holds elsewhere
+-- on any cells: the same is told, whatever the store holds elsewhere; and where the tables are sound, nothing of it comes to what the user may
+-- read, or into his openings
 abbrev pub AnsweredFromNone : Type 0
 AnsweredFromNone =
-    (u : ℕ) (c : Call) (x : Lent) (s : Cells) → T (isOf u c) → SameInSight u (houseOf (x .tables)) (x .store) s → toldOf c (lent s (x .tables)) ≡ toldOf c x
+    (u : ℕ) (c : Call) (x : Lent) (s : Cells) → T (isOf u c) → SameInSight u (houseOf (x .tables)) (x .store) s
+    → let y = lent s (x .tables) in
+    (toldOf c y ≡ toldOf c x) × (Sound x → blotted u (viewOn (afterCall c y)) ≡ blotted u (viewOn (afterCall c x)))

@@ -16,20 +16,20 @@ use Rattle.combine.specs.laws.Verdict.{Refuses}
 use Rattle.combine.specs.laws.Run.{Related, run-related, admitted-related}
 use Rattle.placing.specs.Sizes.{greatestEntry, entryOf, userOf}
 use Rattle.rules.specs.Calls.{Request, Run, writes, fills, save, count, starts, asks, on, runs}
-use Rattle.rules.specs.Headings.{Heading, Handle, Open, headOf, handleOf, passes, opening}
+use Rattle.rules.specs.Headings.{Heading, Open, headOf, handleOf, passes, opening}
 use Rattle.rules.specs.Effects.{Effect, Others}
 use Rattle.rules.specs.Gates.{userGate}
 use Rattle.rules.specs.House.{house, opensPlace, worksPlace, othersOf}
-use Rattle.rules.specs.Levels.{perform, ruled, orBlank}
+use Rattle.rules.specs.Levels.{ruled, orBlank}
 use Rattle.rules.specs.Readable.{mayRead}
-use Rattle.rules.specs.Rules.{rule, headed}
+use Rattle.rules.specs.Rules.{rule}
 use Rattle.rules.specs.Runs.{requestsOf, admits, admission, runAnswer, runTold, noRun}
 use Rattle.rules.specs.laws.Gates.{gate-related}
 use Rattle.rules.specs.laws.Readable.{mayReadAt}
-use Rattle.model.specs.Model.{File, Body, Files, Model, model, free, modelLevel}
-use Rattle.model.specs.Step.{performOnModel, requestOnModel, runOnModel, step, stepRun, stepTold}
-use Rattle.demands.specs.Private.{blotFile, blotOpening, blotOpenings, blotted, AnsweredFromNoneKnown}
-use Rattle.proof_requests_sound.specs.Allowed.{Allowed, Opens, a-new, an-old, Handles, an-end, a-freeing, a-filing, a-use}
+use Rattle.model.specs.Model.{File, Body, Model, model, modelLevel}
+use Rattle.model.specs.Step.{performOnModel, requestOnModel, runOnModel, step, stepTold}
+use Rattle.demands.specs.Private.{blotFile, blotOpenings, blotted, AnsweredFromNoneKnown}
+use Rattle.proof_requests_sound.specs.Allowed.{Allowed, a-new, an-old, an-end, a-freeing, a-filing, a-use}
 use Rattle.proof_neighbours.specs.Effects.{headed-owner}
 use Rattle.proof_neighbours.specs.Requests.{allowed-at, user-of}
 use Rattle.proof_neighbours.specs.Blotted.{file-whole, opening-whole, heads-stay, handles-stay, free-stays, opening-at, opening-set}

@@ -2,7 +2,7 @@
 use Prim.Native.Nat.{ℕ}
 use native.Mathlib.Decide.{ℕ-discrete}
 use mathlib.Core.Path.{_≡_, refl, sym, ap, _∙_, subst}
-use mathlib.Core.Logic.{_≢_, ⊎-elim}
+use mathlib.Core.Logic.{⊎-elim}
 use mathlib.Core.Bool.{Bool, true, false, not}
 use mathlib.Core.Option.{Option, none, some}
 use mathlib.Core.List.{List, map}
@@ -15,7 +15,7 @@ use Rattle.combine.specs.Outcome.{Outcome}
 use Rattle.combine.specs.Run.{Ran, runOver}
 use Rattle.combine.specs.laws.Run.{run-keeps, admitted-keeps, run-map}
 use Rattle.placing.specs.Sizes.{entryOf, userOf}
-use Rattle.rules.specs.Calls.{Request, Act, opens, closes, abandons, uses, write, next, Run, writes, fills, save, count, Call, starts, asks, on, runs}
+use Rattle.rules.specs.Calls.{Request, Act, uses, write, next, Run, writes, fills, save, count, Call, starts, asks, on, runs}
 use Rattle.rules.specs.Headings.{Heading, Open, headOf, handleOf, isSome}
 use Rattle.rules.specs.Effects.{Effect, Use, used, Others}
 use Rattle.rules.specs.Access.{acting}
@@ -29,7 +29,7 @@ use Rattle.model.specs.Step.{requestOnModel, runOnModel, step}
 use Rattle.model.specs.View.{filesIn}
 use Rattle.proof_requests_sound.specs.Allowed.{Allowed, a-new, an-old, PlaceOf, an-end, a-freeing, a-filing, a-use}
 use Rattle.proof_demand2.specs.Demand2.{after-known}
-use Rattle.demands.specs.History.{outcomeOn, afterCall, viewOn}
+use Rattle.demands.specs.History.{afterCall, viewOn}
 use Rattle.demands.specs.laws.Unsound.{refuses-unsound}
 use Rattle.demands.specs.Private.{isOf, LeavesOthers, WorksOnOwn, ChangesNoneKnown, ChangesNone}
 use Rattle.proof_neighbours.specs.AnsweredFromNone.{own-read}

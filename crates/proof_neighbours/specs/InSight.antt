@@ -1,7 +1,7 @@
 -- What users know of two stores that are the same in a user's sight is the same, blotted for him; so he is told the same. Assumes nothing.
-use Prim.Native.Nat.{ℕ, _*_, _+_, _<_}
+use Prim.Native.Nat.{ℕ}
 use native.Mathlib.Omega.{arith}
-use mathlib.Core.Path.{_≡_, refl, sym, ap, ap₂, _∙_, subst}
+use mathlib.Core.Path.{_≡_, refl, sym, ap, _∙_, subst}
 use mathlib.Core.Logic.{⊎-elim}
 use mathlib.Core.Bool.{Bool, true, false, cond}
 use mathlib.Core.Option.{Option, none, some}
@@ -31,12 +31,12 @@ use Rattle.tables.specs.Sound.{soundb}
 use Rattle.cells.specs.Says.{houseOf}
 use Rattle.cells.specs.Outcomes.{Lent, lent, soundLent, runOut}
 use Rattle.model.specs.Model.{File, Body, body, Files, Model, model}
-use Rattle.model.specs.Step.{Report, stepTold}
-use Rattle.model.specs.View.{viewPlace, viewEntry, viewOpening, viewHouse, view, filesIn}
+use Rattle.model.specs.Step.{Report, step, stepTold}
+use Rattle.model.specs.View.{viewPlace, viewEntry, viewOpening, view, filesIn}
 use Rattle.proof_requests_sound.specs.Counts.{in-at}
 use Rattle.proof_cells_agree.specs.SoundSays.{sound-says}
-use Rattle.proof_demand2.specs.Demand2.{told-known}
-use Rattle.demands.specs.History.{toldOf, viewOn}
+use Rattle.proof_demand2.specs.Demand2.{told-known, after-known}
+use Rattle.demands.specs.History.{afterCall, toldOf, viewOn}
 use Rattle.demands.specs.Demands.{Sound}
 use Rattle.demands.specs.laws.Unsound.{refuses-unsound}
 use Rattle.demands.specs.Private.{isOf, blotFile, blotOpening, blotOpenings, blotted, SameIn, SameInSight, AnsweredFromNone}
@@ -156,24 +156,38 @@ told-unsound u (runs v d r) x y t p q = go r (run-unsound r v d x p) (run-unsoun
         let told : Ran Lent → Report = λ k. record { answer = runAnswer k; image = none; run = runTold (fills n l) k } in
         ap told e ∙ sym (ap told f)
 
+blind-after : (u : ℕ) (c : Call) (f g : Cells → Option Files) (m : Model) → T (isOf u c) → step f c m .after ≡ step g c m .after
+blind-after u (starts c) f g m t = absurd t
+blind-after u (asks (save img)) f g m t = absurd t
+blind-after u (asks (count v)) f g m t = refl
+blind-after u (on v e r) f g m t = refl
+blind-after u (runs v e r) f g m t = refl
+
 -- ---- on any cells
 
+module _ (u : ℕ) (c : Call) (x : Lent) (s : Cells) (own : T (isOf u c)) (sight : SameInSight u (houseOf (x .tables)) (x .store) s) where
+  abbrev y : Lent
+  y = lent s (x .tables)
+
+  -- whether tables are sound is seen by the store's length
+  there : (b : Bool) → soundLent (x .store) (x .tables) ≡ b → soundLent s (x .tables) ≡ b
+  there b e = subst (λ (n : ℕ). soundb n (x .tables) ≡ b) (sym (sight .long)) e
+
+  told-same : Sound x → toldOf c y ≡ toldOf c x
+  told-same sound =
+      told-known c y (there true sound)
+      ∙ sym (answered-from-none-known u c (filesIn s) (viewOn y) own .0) ∙ ap (stepTold (filesIn s) c) (sight-blotted u x s sound sight) ∙ answered-from-none-known u c (filesIn s) (viewOn x) own .0
+      ∙ blind-told u c (filesIn s) (filesIn (x .store)) (viewOn x) own ∙ sym (told-known c x sound)
+
+  after-same : Sound x → blotted u (viewOn (afterCall c y)) ≡ blotted u (viewOn (afterCall c x))
+  after-same sound =
+      ap (blotted u) (after-known c y (there true sound))
+      ∙ sym (answered-from-none-known u c (filesIn s) (viewOn y) own .1) ∙ ap (λ (m : Model). step (filesIn s) c m .after) (sight-blotted u x s sound sight)
+      ∙ answered-from-none-known u c (filesIn s) (viewOn x) own .1
+      ∙ ap (blotted u) (blind-after u c (filesIn s) (filesIn (x .store)) (viewOn x) own ∙ sym (after-known c x sound))
+
 pub answered-from-none : AnsweredFromNone
-answered-from-none u c x s t sight = ⊎-elim sound-case
-    (λ e. told-unsound u c (lent s (x .tables)) x t (subst (λ (n : ℕ). soundAt n ≡ false) (sym (sight .long)) e) e)
-    (split-bool (soundLent (x .store) (x .tables)))
-  where
-    y : Lent
-    y = lent s (x .tables)
-
-    soundAt : ℕ → Bool
-    soundAt n = soundb n (x .tables)
-
-    look : Cells → Option Files
-    look = filesIn s
-
-    sound-case : Sound x → toldOf c y ≡ toldOf c x
-    sound-case sound =
-        told-known c y (subst (λ (n : ℕ). soundAt n ≡ true) (sym (sight .long)) sound)
-        ∙ sym (answered-from-none-known u c look (viewOn y) t .0) ∙ ap (stepTold look c) (sight-blotted u x s sound sight) ∙ answered-from-none-known u c look (viewOn x) t .0
-        ∙ blind-told u c look (filesIn (x .store)) (viewOn x) t ∙ sym (told-known c x sound)
+answered-from-none u c x s own sight = (
+  ⊎-elim (told-same u c x s own sight) (λ e. told-unsound u c (lent s (x .tables)) x own (there u c x s own sight false e) e) (split-bool (soundLent (x .store) (x .tables))),
+  after-same u c x s own sight,
+)
