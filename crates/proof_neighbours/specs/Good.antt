@@ -1,5 +1,5 @@
--- Two cells that look alike to the landlord: sound, with none but him having a public file open, and he sees the same. What a request of his own, and of
--- another, does to them. Assumes nothing.
+-- Cells, here and there, that look alike to the landlord: sound, nobody but him has a public file open, and he sees the same. What a request of his
+-- own, and of another, does to them. Assumes nothing.
 use Prim.Native.Nat.{ℕ}
 use mathlib.Core.Path.{_≡_, sym, ap, ap₂, _∙_, subst}
 use mathlib.Core.Logic.{_≢_}

@@ -1,5 +1,4 @@
--- The landlord's own request in two houses where he sees the same: the same refusal, or effects that are the same but for places; 9 and 17 are
--- excepted. Assumes nothing.
+-- What the landlord sees, read the other way round and of one house; and effects that are the same but for places. Assumes nothing.
 use Prim.Native.Nat.{ℕ, _≤_}
 use native.Mathlib.Omega.{arith}
 use mathlib.Core.Path.{_≡_, refl, sym, subst}
