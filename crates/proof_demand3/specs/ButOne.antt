@@ -1,8 +1,9 @@
 -- The premises of demand 3 but one: what a story meets that shows the one to be needed. Assumes nothing.
 use Prim.Native.Nat.{ℕ}
-use mathlib.Core.Bool.{Bool, true, false, not, _&&_, _||_, cond}
+use mathlib.Core.Bool.{Bool, true, false, not, _&&_, _||_, cond, and-false}
 use mathlib.Core.List.{List, [], _∷_, _++_}
 use lib.Dec.{T, eqb}
+use mathlib.Core.Path.{sym, subst}
 use Rattle.combine.specs.Verdict.{Said, done, refused, isDone}
 use Rattle.combine.specs.laws.Tests.{and-intro}
 use Rattle.rules.specs.Calls.{Call}
@@ -66,13 +67,9 @@ NoneStopped u e = Each (λ c x. T (isOn u e c || not (crowded (refused (callRun 
 quiet-unstopped : (u e : ℕ) (c : Call) (a : Said) (n : ℕ) → T (quiet u e c a) → T (isOn u e c || not (crowded (refused n))) → T (quiet u e c (cond (eqb n 0) a (refused n)))
 quiet-unstopped u e c a n q t = go (eqb n 0)
   where
-    never : (b : Bool) → T (not (b && false))
-    never true = tt
-    never false = tt
-
     go : (unstopped : Bool) → T (quiet u e c (cond unstopped a (refused n)))
     go true = q
-    go false = and-intro (not (ends u e c && false)) (isOn u e c || not (crowded (refused n))) (never (ends u e c)) t
+    go false = and-intro (not (ends u e c && false)) (isOn u e c || not (crowded (refused n))) (subst (λ (b : Bool). T (not b)) (sym (and-false (ends u e c))) tt) t
 
 pub with-none-stopped : (h : Story) (x : Lent) → AbandonedByAnswer h x → NoneStopped (h .user) (h .entry) (h .between) (afterCall (openingCall h) (final (h .before) x)) → Abandoned h x
 with-none-stopped h x a t = record { opened = a .opened; quietly = each-both _ _ _ (λ c y. quiet-unstopped (h .user) (h .entry) c (outcomeOn c y .answer) (callRun c (y .store) (y .tables) .stop)) (h .between) _ (a .quietly) t; noLoad = a .noLoad }

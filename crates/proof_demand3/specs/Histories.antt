@@ -5,7 +5,7 @@ use mathlib.Core.Bool.{Bool, true, false, not, _&&_, cond}
 use mathlib.Core.List.{List, [], _∷_, map}
 use lib.Dec.{T, ltb, eqb, eqb→eq, nltb→le}
 use Rattle.combine.specs.laws.Below.{not-both}
-use Rattle.combine.specs.laws.Tests.{and-first, and-second}
+use Rattle.combine.specs.laws.Tests.{and-first, and-second, true-of, false-of, not-not}
 use Rattle.combine.specs.Verdict.{isDone}
 use Rattle.placing.specs.Sizes.{entryOf}
 use Rattle.rules.specs.Calls.{Request, Run, Call, starts, asks, on, runs}
@@ -58,21 +58,13 @@ own-call u e x y (runs v d r) b o q =
 
 -- ---- between the opening and its abandonment
 
-not-true : (b : Bool) → not b ≡ true → b ≡ false
-not-true true q = absurd (not-both q refl)
-not-true false q = refl
-
-not-false : (b : Bool) → not b ≡ false → b ≡ true
-not-false true q = refl
-not-false false q = absurd (not-both refl q)
-
 module _ (u e : ℕ) (entry : T (not (ltb 3 e))) where
   between : Unwinds (isElsewhere u e) leftFate (λ c x. T (quiet u e c (answeredAs c x))) (λ c y. T (isElsewhere u e c)) (Beside (entryOf u e))
   between = record {
-    left = λ c x y o q b. own-call u e x y c b (not-false (isOn u e c) o) q;
+    left = λ c x y o q b. own-call u e x y c b (true-of (isOn u e c) (not-not (isOn u e c) (rw o tt))) q;
     right = λ c x y o q b. absurd (subst (λ (t : Bool). T t) o q);
-    both = λ c x y o q t b. another-beside u e x y b c (nltb→le 3 e entry) (not-true (isOn u e c) o) q;
-    told = λ c x y o q t b. another-told u e x y b c (nltb→le 3 e entry) (not-true (isOn u e c) o) q;
+    both = λ c x y o q t b. another-beside u e x y b c (nltb→le 3 e entry) (false-of (isOn u e c) (rw o tt)) q;
+    told = λ c x y o q t b. another-told u e x y b c (nltb→le 3 e entry) (false-of (isOn u e c) (rw o tt)) q;
   }
 
   -- the calls that are left, beside all

@@ -9,7 +9,7 @@ use lib.ListN.{length, getD, length-map, List·getD-map}
 use Rattle.placing.specs.Sizes.{entryOf, userOf}
 use Rattle.rules.specs.Calls.{Request, opens, closes, abandons, uses, Call, starts, asks, on, runs}
 use Rattle.rules.specs.Readable.{mayRead}
-use Rattle.rules.specs.Headings.{Heading, Open, headOf, handleOf, passes}
+use Rattle.rules.specs.Headings.{Heading, Open, headOf, handleOf, passes, isSome}
 use Rattle.rules.specs.House.{house}
 use Rattle.rules.specs.Rules.{isOwn, isPublic}
 use Rattle.segments.specs.Free.{SegmentRecord, SegmentOpening, SegmentHouse}
@@ -69,14 +69,7 @@ module _ (s : List ℕ) where
           }
 
       entry-tied : (i p : ℕ) (x : Open Body) (z : Option SegmentOpening) → SoundEntry (h .segments) (userOf i) rs z → viewEntry s rs z ≡ some x → x .handle .place ≡ some p → Tied (viewHouse s h) i p x
-      entry-tied i p x none o e q = absurd (no-some e)
-        where
-          isThere : Option (Open Body) → Bool
-          isThere none = false
-          isThere (some y) = true
-
-          no-some : none ≡ some x → ⊥
-          no-some e = subst (λ (y : Option (Open Body)). T (not (isThere y))) e tt
+      entry-tied i p x none o e q = absurd (subst (λ (y : Option (Open Body)). T (not (isSome y))) e tt)
       entry-tied i p x (some z) o e q =
           let same : viewOpening s rs z ≡ x = cc in
           subst (λ (y : Open Body). y .handle .place ≡ some p → Tied (viewHouse s h) i p y) same (λ q. tied-view i p z o q) q

@@ -7,6 +7,7 @@ use mathlib.Core.Option.{Option, none, some}
 use mathlib.Core.List.{List, map}
 use lib.Dec.{T, eqb, eqb→eq}
 use lib.ListN.{getD, set, List·getD-map}
+use Rattle.combine.specs.laws.Tests.{not-not}
 use Rattle.placing.specs.Sizes.{userOf}
 use Rattle.rules.specs.Readable.{mayRead}
 use Rattle.rules.specs.Headings.{Heading, Handle, Open, headOf, isSome}
@@ -59,11 +60,7 @@ module _ (a : ℕ) (h k : Files) (s : SeesSame a h k) (quiet : NonePublic a k) (
       let r = tied i p x ix e in
       let q : T (not (opensPublic k i)) = quiet i other in
       let hidden : T (not (not (r .filed .head .private))) = rw (ix, e, r .there) at q in
-      rw (r .there) (not-his a (r .filed .head) (userOf i) (twice (r .filed .head .private) hidden) (r .worker w) other)
-    where
-      twice : (b : Bool) → T (not (not b)) → T b
-      twice true t = tt
-      twice false t = t
+      rw (r .there) (not-his a (r .filed .head) (userOf i) (not-not (r .filed .head .private) hidden) (r .worker w) other)
 
   pub opens-unseen : (u : ℕ) (rs : List (Option Heading)) (o : Others) (x : Open Body) (f : Effect) → Opens u rs o f → SeesSame a h (changed k i (perform modelLevel k x f))
   opens-unseen u rs o x f (a-new n l) = entry-unseen a h k i _ other s

@@ -2,7 +2,7 @@
 use Prim.Native.Nat.{ℕ, zero, suc}
 use native.Mathlib.Omega.{arith}
 use mathlib.Core.Path.{_≡_, refl, sym, ap, ap₂, _∙_}
-use mathlib.Core.Bool.{Bool, true, false, not, _&&_, _||_, cond}
+use mathlib.Core.Bool.{Bool, true, false, not, _&&_, _||_, cond, and-true}
 use mathlib.Core.Option.{Option, none, some}
 use mathlib.Core.List.{List, [], _∷_, map}
 use lib.Dec.{T, not-T}
@@ -78,13 +78,9 @@ any-but f (x ∷ l) s zero = go (passes f x) refl
     nobody [] h = refl
     nobody (y ∷ m) h = ap₂ (λ (a b : Bool). a || b) (false-of (passes f y) (h 0)) (nobody m (λ j. h (suc j)))
 
-    and-not-true : (b : Bool) → b ≡ (b && true)
-    and-not-true true = refl
-    and-not-true false = refl
-
     go : (b : Bool) → passes f x ≡ b → any (passes f) l ≡ ((b || any (passes f) l) && not b)
     go true e = nobody l (others (rw e tt))
-    go false e = and-not-true (any (passes f) l)
+    go false e = sym (and-true (any (passes f) l))
 any-but f (x ∷ l) s (suc p) = go (passes f x) refl (any-but f l (λ i j d. s (suc i) (suc j) (λ e. d (omega arith))) p)
   where
     apart : T (passes f x) → passes f (getD l p none) ≡ false

@@ -2,11 +2,11 @@
 use Prim.Native.Nat.{ℕ}
 use mathlib.Core.Path.{_≡_, refl, sym, ap, _∙_, subst}
 use mathlib.Core.Logic.{_≢_, ⊎-elim}
-use mathlib.Core.Bool.{Bool, true, false, not, _&&_, cond}
+use mathlib.Core.Bool.{Bool, true, false, not, _&&_, and-true}
 use mathlib.Core.Option.{none}
 use lib.Dec.{T, eqb, eqb→eq}
 use Rattle.combine.specs.laws.Below.{split-bool, not-both}
-use Rattle.combine.specs.laws.Tests.{eqb-eq}
+use Rattle.combine.specs.laws.Tests.{eqb-eq, false-of}
 use Rattle.combine.specs.Verdict.{isDone}
 use Rattle.combine.specs.Outcome.{Outcome}
 use Rattle.rules.specs.Calls.{Start, save, count, Call, starts, asks, on, runs}
@@ -28,12 +28,10 @@ use Rattle.proof_neighbours.specs.Runs.{other-run-good, own-run-good, ow
 
 -- ---- a start that is not done changes nothing
 
-not-done : (b : Bool) → T (not (b && true)) → b ≡ false
-not-done true t = absurd t
-not-done false t = refl
-
 start-still : (c : Start) (x : Lent) → T (not (isDone (outcomeOn (starts c) x .answer) && true)) → afterCall (starts c) x ≡ x
-start-still c x t = refusal-keeps-cells (starts c) (x .store) (x .tables) (not-done (isDone (outcomeOn (starts c) x .answer)) t)
+start-still c x t =
+    let said = isDone (outcomeOn (starts c) x .answer) in
+    refusal-keeps-cells (starts c) (x .store) (x .tables) (false-of said (subst (λ (b : Bool). T (not b)) (and-true said) t))
 
 module _ (a : ℕ) where
   abbrev Premise : Call → Lent → Type 0
@@ -66,21 +64,13 @@ module _ (a : ℕ) where
 
   -- ---- on sound ones he sees the same
 
-  others : (b : Bool) (s t : Bool) → b ≡ false → T (cond b s t) → T t
-  others true s t e p = absurd (not-both refl e)
-  others false s t e p = p
-
-  his : (b : Bool) (s t : Bool) → b ≡ true → T (cond b s t) → T s
-  his true s t e p = p
-  his false s t e p = absurd (not-both e refl)
-
   another : (v : ℕ) → eqb a v ≡ false → v ≢ a
   another v e q = not-both (eqb-eq a v (sym q)) e
 
   right-good : (c : Call) (x y : Lent) → isOf a c ≡ false → Premise c y → Good a x y → Good a x (afterCall c y)
   right-good (starts c) x y e p g = subst (Good a x) (sym (start-still c y p)) g
   right-good (asks q) x y e p g = g
-  right-good (on v d r) x y e p g = other-good a x y g v d r (another v e) (others (eqb a v) _ _ e p)
+  right-good (on v d r) x y e p g = other-good a x y g v d r (another v e) (rw e at p)
   right-good (runs v d r) x y e p g = other-run-good a x v d (another v e) r y g
 
   -- a call of the landlord's: the same is heard, and he sees the same
@@ -98,11 +88,11 @@ module _ (a : ℕ) where
   own-alike (on v d r) x y e p q g =
       subst (λ (u : ℕ). T (not (hindered (on u d r) x)) → T (not (hindered (on u d r) y)) → OwnAlike (on u d r) x y) (eqb→eq a v (rw e tt))
       (λ s t. (λ i. hear remains (record { answer = own-answer a x y g d r s t i; image = none; run = noRun }), own-good a x y g d r s t))
-      (his (eqb a v) _ _ e p) (his (eqb a v) _ _ e q)
+      (rw e at p) (rw e at q)
   own-alike (runs v d r) x y e p q g =
       subst (λ (u : ℕ). T (not (hindered (runs u d r) x)) → T (not (hindered (runs u d r) y)) → OwnAlike (runs u d r) x y) (eqb→eq a v (rw e tt))
       (λ s t. (ap (hear remains) (own-run-told a x y g d r s t), own-run-good a x y g d r s t))
-      (his (eqb a v) _ _ e p) (his (eqb a v) _ _ e q)
+      (rw e at p) (rw e at q)
 
   goes : Unwinds (isOf a) leftFate Premise Premise (Good a)
   goes = record {

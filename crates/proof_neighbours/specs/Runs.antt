@@ -2,7 +2,7 @@
 use Prim.Native.Nat.{ℕ}
 use mathlib.Core.Path.{_≡_, refl, sym, ap, _∙_, subst}
 use mathlib.Core.Logic.{_≢_}
-use mathlib.Core.Bool.{Bool, true, false, not, _&&_}
+use mathlib.Core.Bool.{Bool, true, not, and-false}
 use mathlib.Core.Option.{Option, none, some}
 use mathlib.Core.List.{List, map}
 use lib.Dec.{T}
@@ -32,15 +32,11 @@ use Rattle.proof_neighbours.specs.Good.{Good, other-good, own-answer, ow
 module _ (a : ℕ) where
   -- ---- another's: its single calls are uses, which are not open
 
-  never : (b : Bool) → T (not (b && false))
-  never true = tt
-  never false = tt
-
   module _ (x : Lent) (v d : ℕ) (other : v ≢ a) where
     uses-good : (f : ℕ → Act) (l : List ℕ) (y : Lent) → Good a x y → Good a x (runOver (single v d) (map (λ n. uses (f n)) l) y .after)
     uses-good f l y g =
         subst (λ (r : Ran Lent). Good a x (r .after)) (sym (run-map (λ (n : ℕ). uses (f n)) (single v d) l y))
-        (run-keeps (λ (n : ℕ) (z : Lent). single v d (uses (f n)) z) (Good a x) (λ n z k. other-good a x z k v d (uses (f n)) other (never (isDone (outcomeOn (on v d (uses (f n))) z .answer)))) l y g)
+        (run-keeps (λ (n : ℕ) (z : Lent). single v d (uses (f n)) z) (Good a x) (λ n z k. other-good a x z k v d (uses (f n)) other (subst (λ (b : Bool). T (not b)) (sym (and-false (isDone (outcomeOn (on v d (uses (f n))) z .answer)))) tt)) l y g)
 
     pub other-run-good : (r : Run) (y : Lent) → Good a x y → Good a x (afterCall (runs v d r) y)
     unfolding runOut

@@ -2,7 +2,7 @@
 -- opening of it is done. Without the load it is 11. Assumes nothing.
 use Prim.Native.Nat.{ℕ}
 use mathlib.Core.Path.{_≡_, refl, sym, ap, _∙_, subst}
-use mathlib.Core.Bool.{Bool, true, false, not, _&&_}
+use mathlib.Core.Bool.{Bool, not, and-false}
 use mathlib.Core.List.{List, [], _∷_}
 use lib.Dec.{T}
 use lib.ListN.{getD}
@@ -52,15 +52,11 @@ known-without = refl
 without-load : outcomeOn opensA x .answer ≡ refused 11
 without-load = ap (λ (l : List Said). getD l 0 (done 0)) (answers-started 8192 refl (opensA ∷ []) tt ∙ known-without)
 
-never : (b : Bool) → T (not (b && false))
-never true = tt
-never false = tt
-
 abbrev Others : Call → Lent → Type 0
 Others = Apart hindered (openlyBut isLoad) 2
 
 apart-with : Each Others (starts (load imageWithA) ∷ opensA ∷ []) x
-apart-with = (never (isDone (outcomeOn (starts (load imageWithA)) x .answer)), (subst (λ (s : Said). T (not (hinders s))) (sym with-load) tt, tt))
+apart-with = (subst (λ (b : Bool). T (not b)) (sym (and-false (isDone (outcomeOn (starts (load imageWithA)) x .answer)))) tt, (subst (λ (s : Said). T (not (hinders s))) (sym with-load) tt, tt))
 
 apart-without : Each Others (opensA ∷ []) x
 apart-without = (subst (λ (s : Said). T (not (hinders s))) (sym without-load) tt, tt)
