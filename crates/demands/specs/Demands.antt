@@ -19,8 +19,7 @@ use Rattle.cells.specs.Says.{houseOf}
 use Rattle.cells.specs.Outcomes.{Lent, lent, soundLent, lengthsb, freeOut, loadOut, saved, saveOut}
 use Rattle.model.specs.Model.{Model, model}
 use Rattle.model.specs.Step.{Report, step, stepTold}
-use Rattle.model.specs.View.{filesIn}
-use Rattle.demands.specs.History.{outcomeOn, afterCall, toldOf, viewOn, toldAll, final, seenAll, modelTold, modelFinal}
+use Rattle.demands.specs.History.{outcomeOn, afterCall, toldOf, lookOn, viewOn, toldAll, final, seenAll, modelTold, modelFinal}
 
 -- the tables of x are sound beside its store
 abbrev pub Sound : Lent → Type 0
@@ -47,7 +46,7 @@ KeepsBeyond = (c : Call) (x : Lent) → Sound x → (k : ℕ) → segmentCells *
 -- ---- demand 2: the calls on cells are the calls on the state as its users know it, with the same answers
 
 abbrev pub Refines : Call → Lent → Type 0
-Refines c x = _≡_ {A = Report × Model} (toldOf c x, viewOn (afterCall c x)) (stepTold (filesIn (x .store)) c (viewOn x), step (filesIn (x .store)) c (viewOn x) .after)
+Refines c x = _≡_ {A = Report × Model} (toldOf c x, viewOn (afterCall c x)) (stepTold (lookOn x) c (viewOn x), step (lookOn x) c (viewOn x) .after)
 
 abbrev pub Demand2 : Type 0
 Demand2 = (c : Call) (x : Lent) → Sound x → Refines c x

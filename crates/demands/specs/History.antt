@@ -2,13 +2,12 @@
 -- store and tables as the one before left them, and nobody writes there between." Assumes nothing.
 use Prim.Native.Nat.{ℕ}
 use mathlib.Core.Bool.{Bool, cond}
-use mathlib.Core.Option.{Option}
 use mathlib.Core.List.{List, [], _∷_}
 use Rattle.combine.specs.Outcome.{Outcome}
 use Rattle.rules.specs.Calls.{Call}
 use Rattle.cells.specs.Outcomes.{Lent, callOut, callImage, callRun}
-use Rattle.model.specs.Model.{Files, Model}
-use Rattle.model.specs.Step.{Report, report, step, stepTold}
+use Rattle.model.specs.Model.{Model}
+use Rattle.model.specs.Step.{Look, Report, report, step, stepTold}
 use Rattle.model.specs.View.{view, filesIn}
 
 -- ---- a call on cells
@@ -24,6 +23,10 @@ toldOf c x = report c (outcomeOn c x .answer) (filesIn (x .store) (callImage c (
 
 abbrev pub viewOn : Lent → Model
 viewOn x = view (x .store) (x .tables)
+
+-- what is told from the cells
+abbrev pub lookOn : Lent → Look
+lookOn x = record { files = filesIn (x .store) }
 
 -- ---- a history on cells
 
@@ -45,15 +48,15 @@ abbrev pub Each : (Call → Lent → Type 0) → List Call → Lent → Type 0
 Each P [] x = Unit {0}
 Each P (c ∷ cs) x = P c x × Each P cs (afterCall c x)
 
--- ---- the same history as users know it: with each call goes what the lent images hold over the store of that time
+-- ---- the same history as users know it: with each call goes what the cells of that time tell
 
 pub record Seen : Type 0 where
   pub call : Call
-  pub look : List ℕ → Option Files
+  pub look : Look
 
 abbrev pub seenAll : List Call → Lent → List Seen
 seenAll [] x = []
-seenAll (c ∷ cs) x = record { call = c; look = filesIn (x .store) } ∷ seenAll cs (afterCall c x)
+seenAll (c ∷ cs) x = record { call = c; look = lookOn x } ∷ seenAll cs (afterCall c x)
 
 abbrev pub modelTold : List Seen → Model → List Report
 modelTold [] m = []

@@ -17,7 +17,7 @@ use Rattle.segments.specs.Free.{SegmentRecord, SegmentHouse, openingSegments}
 use Rattle.cells.specs.Says.{houseOf}
 use Rattle.cells.specs.Outcomes.{Lent, lent}
 use Rattle.model.specs.Model.{File, Body, body, Files, Model, model}
-use Rattle.model.specs.Step.{step, stepTold}
+use Rattle.model.specs.Step.{Look, step, stepTold}
 use Rattle.demands.specs.History.{afterCall, toldOf, viewOn}
 use Rattle.demands.specs.Demands.{Sound}
 
@@ -45,7 +45,7 @@ WorksOnOwn u h =
 -- on what users know
 abbrev pub ChangesNoneKnown : Type 0
 ChangesNoneKnown =
-    (u : ℕ) (c : Call) (look : Cells → Option Files) (m : Model) → T (isOf u c) → WorksOnOwn u (m .house) → LeavesOthers u (m .house) (step look c m .after .house)
+    (u : ℕ) (c : Call) (look : Look) (m : Model) → T (isOf u c) → WorksOnOwn u (m .house) → LeavesOthers u (m .house) (step look c m .after .house)
 
 -- on any cells
 abbrev pub ChangesNone : Type 0
@@ -74,7 +74,7 @@ blotted u m = model (m .cells) (house (m .house .segments) (map (blotFile u) (m 
 -- on what users know: the same is told, and done, where these elements are blotted out
 abbrev pub AnsweredFromNoneKnown : Type 0
 AnsweredFromNoneKnown =
-    (u : ℕ) (c : Call) (look : Cells → Option Files) (m : Model) → T (isOf u c)
+    (u : ℕ) (c : Call) (look : Look) (m : Model) → T (isOf u c)
     → (stepTold look c (blotted u m) ≡ stepTold look c m) × (step look c (blotted u m) .after ≡ blotted u (step look c m .after))
 
 -- two stores have the same cells in these segments

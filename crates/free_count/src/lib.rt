@@ -25,7 +25,7 @@ use placing::RECORDS_START;
 use tables::layout;
 
 // A mark for each segment.
-const MARKS: usize = MOST_SEGMENTS as usize;
+pub const MARKS: usize = MOST_SEGMENTS as usize;
 
 // Where the lists of the first record and of the first opening start.
 const RECORD_LIST: usize = RECORDS_START + layout::RECORD_SEGMENTS;
@@ -44,7 +44,7 @@ pub fn row_start(i: usize) -> usize
 }
 
 // How many segments a record or an opening holds; its first cell is 0 where there is none.
-fn held_by(used: u32, species: u32, begin: u32, end: u32) -> usize
+pub fn held_by(used: u32, species: u32, begin: u32, end: u32) -> usize
     requires { ⌜ ((used ≡ 0 → ⊥) → SoundExtent species begin end) ⌝ }
     ensures { λ r. ⌜ r ≡ cond (eqb used 0) 0 (heldOf species begin end) ⌝ }
 {
@@ -91,7 +91,7 @@ fn mark_row(row: &[u32], marks: &mut [u32; MARKS])
 }
 
 // How many of the first numbers are not marked.
-fn unmarked(marks: &[u32; MARKS], segments: u32) -> u32
+pub fn unmarked(marks: &[u32; MARKS], segments: u32) -> u32
     requires { ⌜ segments ≤ mostSegments ⌝ }
     ensures { λ r. ⌜ r ≡ countBelow segments (λ g. eqb (getD (now (marks .entry)) g 0) 0) ⌝ }
 {
@@ -105,8 +105,9 @@ fn unmarked(marks: &[u32; MARKS], segments: u32) -> u32
 }
 
 // Marks the numbers that the lists hold.
-fn mark_lists(tables: &[u32], marks: &mut [u32; MARKS])
+pub fn mark_lists(tables: &[u32], marks: &mut [u32; MARKS])
     requires { ⌜ Ranged (now tables) × (length (now marks) ≡ mostSegments) ⌝ }
+    ensures size { λ _. ⌜ length (now (marks .exit)) ≡ mostSegments ⌝ }
     ensures { λ _. ⌜ ((g : ℕ) → eqb (getD (now (marks .exit)) g 0) 0 ≡ (eqb (getD (now (marks .entry)) g 0) 0 && isFree (houseOf (now (tables .entry))) g)) ⌝ }
 {
     let mut list = 0;

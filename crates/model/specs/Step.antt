@@ -31,22 +31,28 @@ requestOnModel r u e m =
 unfoldable pub runOnModel : Run → (user entry : ℕ) → Model → Ran Model
 runOnModel r u e m = admitted m (admission true r u e (m .house)) (runOver (λ q n. requestOnModel q u e n) (requestsOf r) m)
 
--- ---- a call; `look` says what files a lent image holds over the store as it is, none where it is not sound
+-- ---- what lists of elements do not say, and the cells do
+
+-- what files a lent image holds over the store as it is, none where it is not sound
+pub record Look : Type 0 where
+  pub files : Cells → Option Files
+
+-- ---- a call
 
 abbrev pub filesOr : Files → Option Files → Files
 filesOr h none = h
 filesOr h (some f) = f
 
-abbrev pub startOnModel : (look : Cells → Option Files) → Start → Model → Outcome Model
+abbrev pub startOnModel : Look → Start → Model → Outcome Model
 startOnModel look fresh m = settle m (startGate (leb leastStore (m .cells)) (done (0, model (m .cells) (freshHouse (m .cells)))))
-startOnModel look (load img) m = settle m (imageGate (leb leastStore (m .cells)) (isSome (look img)) (done (0, model (m .cells) (filesOr (m .house) (look img)))))
+startOnModel look (load img) m = settle m (imageGate (leb leastStore (m .cells)) (isSome (look .files img)) (done (0, model (m .cells) (filesOr (m .house) (look .files img)))))
 
 -- the answer to a question
 abbrev pub askModel : Question → Model → Said
 askModel (save img) m = imageGate true (eqb (length img) (imageLength form1)) (done 0)
 askModel (count u) m = userGate true u (done (free (m .house)))
 
-abbrev pub step : (look : Cells → Option Files) → Call → Model → Outcome Model
+abbrev pub step : Look → Call → Model → Outcome Model
 step look (starts c) m = startOnModel look c m
 step look (asks q) m = outcomeOf (askModel q m) m
 step look (on u e r) m = requestOnModel r u e m
@@ -77,5 +83,5 @@ abbrev pub report : Call → Said → Option Files → RunTold → Report
 report c a f r = record { answer = a; image = imageTold c a f; run = r }
 
 -- "Saving writes the records only, whatever is open."
-abbrev pub stepTold : (look : Cells → Option Files) → Call → Model → Report
+abbrev pub stepTold : Look → Call → Model → Report
 stepTold look c m = report c (step look c m .answer) (some (closedDown (m .house))) (stepRun c m)

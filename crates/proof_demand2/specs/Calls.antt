@@ -17,6 +17,7 @@ use Rattle.rules.specs.Gates.{userGate, startGate, imageGate}
 use Rattle.segments.specs.Free.{SegmentHouse, freeCount}
 use Rattle.tables.specs.Layout.{freshTables}
 use Rattle.tables.specs.Sound.{soundb}
+use Rattle.tables.specs.laws.Sound.{fits-store}
 use Rattle.image.specs.Image.{form1, imageb, tablesFrom}
 use Rattle.cells.specs.Says.{houseOf}
 use Rattle.cells.specs.Outcomes.{Lent, lent, soundLent, lengthsb, requestOut, freeOut, freshOut, loadOut}
@@ -26,12 +27,11 @@ use Rattle.model.specs.Model.{Files, Model, model, free}
 use Rattle.model.specs.Step.{filesOr, requestOnModel, startOnModel, askModel}
 use Rattle.model.specs.View.{viewHouse, view, filesIn}
 use Rattle.proof_cells_agree.specs.SoundSays.{sound-says}
-use Rattle.proof_requests_agree.specs.Requests.{fits-store}
 use Rattle.proof_requests_agree.specs.Agrees.{request-agrees}
 use Rattle.proof_model.specs.Counted.{free-seen}
 use Rattle.proof_model.specs.Entries.{viewState}
 use Rattle.proof_model.specs.Requests.{request-seen}
-use Rattle.demands.specs.History.{viewOn}
+use Rattle.demands.specs.History.{lookOn, viewOn}
 
 -- the same answer, and users know what the model has
 pub record Agrees (o : Outcome Lent) (q : Outcome Model) : Type 0 where
@@ -76,7 +76,7 @@ module _ (s t : List ℕ) where
     unfolding view
     fresh-seen = ap (λ (h : SegmentHouse). model (length s) (viewHouse s h)) (fresh-says (freshSegments (length s)))
 
-    pub fresh-agreed : Agrees (freshOut s t) (startOnModel (filesIn s) fresh (view s t))
+    pub fresh-agreed : Agrees (freshOut s t) (startOnModel (lookOn (lent s t)) fresh (view s t))
     unfolding freshOut startGate settle refuse_when_else_ view
     fresh-agreed = rw large (go (leb 64 (length s)))
       where
@@ -85,7 +85,7 @@ module _ (s t : List ℕ) where
         go true = record { answer = refl; after = fresh-seen }
         go false = record { answer = refl; after = refl }
 
-    pub load-agreed : (img : List ℕ) → Agrees (loadOut s t img) (startOnModel (filesIn s) (load img) (view s t))
+    pub load-agreed : (img : List ℕ) → Agrees (loadOut s t img) (startOnModel (lookOn (lent s t)) (load img) (view s t))
     unfolding loadOut imageGate startGate settle refuse_when_else_ view filesIn
     load-agreed img = rw large (go (leb 64 (length s)) (imageb form1 (length s) img))
       where

@@ -16,10 +16,9 @@ use Rattle.tables.specs.laws.Sound.{ranged-of}
 use Rattle.cells.specs.Outcomes.{Lent, lengthsb}
 use Rattle.model.specs.Model.{Model}
 use Rattle.model.specs.Step.{Report, step, stepTold}
-use Rattle.model.specs.View.{filesIn}
 use Rattle.proof_calls_sound.specs.Starts.{right-length}
 use Rattle.proof_calls_sound.specs.Keeps.{keeps-sound, done-is-sound}
-use Rattle.demands.specs.History.{Seen, outcomeOn, afterCall, toldOf, viewOn, seenAll, modelTold, modelFinal}
+use Rattle.demands.specs.History.{Seen, outcomeOn, afterCall, toldOf, lookOn, viewOn, seenAll, modelTold, modelFinal}
 use Rattle.demands.specs.Demands.{Sound, Refines, Demand2, Demand2Start, RefinesAll, Demand2History, Demand2FromStart}
 use Rattle.demands.specs.laws.Unsound.{refuses-lengths}
 use Rattle.proof_demand2.specs.Calls.{request-agreed, count-agreed, fresh-agreed, load-agreed}
@@ -50,13 +49,13 @@ demand2 (runs u e r) x sound = run-refines u e r x sound
 -- ---- of a call, part by part
 
 module _ (c : Call) (x : Lent) (sound : Sound x) where
-  pub told-known : toldOf c x ≡ stepTold (filesIn (x .store)) c (viewOn x)
+  pub told-known : toldOf c x ≡ stepTold (lookOn x) c (viewOn x)
   told-known = ap (λ (p : Report × Model). p .0) (demand2 c x sound)
 
-  pub answer-known : outcomeOn c x .answer ≡ step (filesIn (x .store)) c (viewOn x) .answer
+  pub answer-known : outcomeOn c x .answer ≡ step (lookOn x) c (viewOn x) .answer
   answer-known = ap (λ (r : Report). r .answer) told-known
 
-  pub after-known : viewOn (afterCall c x) ≡ step (filesIn (x .store)) c (viewOn x) .after
+  pub after-known : viewOn (afterCall c x) ≡ step (lookOn x) c (viewOn x) .after
   after-known = ap (λ (p : Report × Model). p .1) (demand2 c x sound)
 
 -- ---- over histories
@@ -65,7 +64,7 @@ module _ (c : Call) (x : Lent) (sound : Sound x) where
 one-more : (c : Call) (cs : List Call) (x : Lent) → Refines c x → RefinesAll cs (afterCall c x) → RefinesAll (c ∷ cs) x
 one-more c cs x one later =
     let seen : List Seen = seenAll cs (afterCall c x) in
-    let known : viewOn (afterCall c x) ≡ step (filesIn (x .store)) c (viewOn x) .after = ap (λ (p : Report × Model). p .1) one in (
+    let known : viewOn (afterCall c x) ≡ step (lookOn x) c (viewOn x) .after = ap (λ (p : Report × Model). p .1) one in (
       ap₂ {C = List Report} (λ a l. a ∷ l) (ap (λ (p : Report × Model). p .0) one) (later .0 ∙ ap (modelTold seen) known),
       later .1 ∙ ap (modelFinal seen) known,
     )

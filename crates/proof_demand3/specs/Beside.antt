@@ -20,7 +20,7 @@ use Rattle.model.specs.Model.{Files, Model}
 use Rattle.model.specs.Step.{Report, report, step, stepRun, stepTold}
 use Rattle.model.specs.View.{viewHouse, view, filesIn}
 use Rattle.proof_calls_sound.specs.Keeps.{keeps-sound}
-use Rattle.demands.specs.History.{outcomeOn, afterCall, toldOf, viewOn}
+use Rattle.demands.specs.History.{outcomeOn, afterCall, toldOf, lookOn, viewOn}
 use Rattle.demands.specs.Demands.{Sound}
 use Rattle.demands.specs.Hearing.{answeredAs}
 use Rattle.demands.specs.Abandoning.{isOn, ending, quiet, isLoad}
@@ -43,7 +43,7 @@ cells-known : (x : Lent) → viewOn x .cells ≡ length (x .store)
 unfolding view
 cells-known x = refl
 
-same-look : (x y : Lent) → viewOn y .cells ≡ viewOn x .cells → SameLook (filesIn (x .store)) (filesIn (y .store))
+same-look : (x y : Lent) → viewOn y .cells ≡ viewOn x .cells → SameLook (lookOn x) (lookOn y)
 same-look x y e img =
     look-length (y .store) img ∙ ap (λ (n : ℕ). imageb form1 n img) (sym (cells-known y) ∙ e ∙ cells-known x) ∙ sym (look-length (x .store) img)
 
@@ -58,28 +58,28 @@ module _ (u e : ℕ) (x y : Lent) (b : Beside (entryOf u e) x y) where
   abbrev i : ℕ
   i = entryOf u e
 
-  looks : SameLook (filesIn (x .store)) (filesIn (y .store))
+  looks : SameLook (lookOn x) (lookOn y)
   looks = same-look x y (ap (λ (m : Model). m .cells) (b .seen))
 
   -- a call that is not the user's by the entry, and quiet: the cells afterwards are beside each other, and the same is told, but for the
   -- numbers of counts
   module _ (c : Call) (le : e ≤ 3) (other : isOn u e c ≡ false) (q : T (quiet u e c (answeredAs c x))) where
-    carries : Carried i c (filesIn (x .store)) (filesIn (y .store)) (viewOn x)
+    carries : Carried i c (lookOn x) (lookOn y) (viewOn x)
     carries =
-        step-another u e (filesIn (x .store)) (filesIn (y .store)) (viewOn x) c le looks other (subst (λ (r : Report). T (quiet u e c (answeredIn r))) (told-known c x (b .with)) q)
+        step-another u e (lookOn x) (lookOn y) (viewOn x) c le looks other (subst (λ (r : Report). T (quiet u e c (answeredIn r))) (told-known c x (b .with)) q)
 
     pub another-beside : Beside i (afterCall c x) (afterCall c y)
     another-beside = record {
       with = keeps-sound c x (b .with);
       without = keeps-sound c y (b .without);
-      seen = after-known c y (b .without) ∙ ap (λ (m : Model). step (filesIn (y .store)) c m .after) (b .seen) ∙ carries .after ∙ sym (ap (emptied i) (after-known c x (b .with)));
+      seen = after-known c y (b .without) ∙ ap (λ (m : Model). step (lookOn y) c m .after) (b .seen) ∙ carries .after ∙ sym (ap (emptied i) (after-known c x (b .with)));
     }
 
     pub another-told : ToldAlike c (toldOf c x) (toldOf c y)
     another-told =
         subst (λ (r : Report). ToldAlike c r (toldOf c y)) (sym (told-known c x (b .with)))
-        (subst (λ (r : Report). ToldAlike c (stepTold (filesIn (x .store)) c (viewOn x)) r)
-        (sym (told-known c y (b .without) ∙ ap (stepTold (filesIn (y .store)) c) (b .seen))) (carries .told))
+        (subst (λ (r : Report). ToldAlike c (stepTold (lookOn x) c (viewOn x)) r)
+        (sym (told-known c y (b .without) ∙ ap (stepTold (lookOn y) c) (b .seen))) (carries .told))
 
   -- a call by the entry that does not end the opening
   pub own-beside : (r : Request) → T (not (ending r && isDone (outcomeOn (on u e r) x .answer))) → Beside i (afterCall (on u e r) x) y
@@ -105,16 +105,16 @@ module _ (u e : ℕ) (x y : Lent) (b : Beside (entryOf u e) x y) where
 -- ---- cells of which users know the same
 
 module _ (x y : Lent) (sx : Sound x) (sy : Sound y) (seen : viewOn x ≡ viewOn y) (c : Call) (n : T (not (isLoad c && isDone (outcomeOn c x .answer)))) where
-  alike : step (filesIn (y .store)) c (viewOn x) ≡ step (filesIn (x .store)) c (viewOn x)
+  alike : step (lookOn y) c (viewOn x) ≡ step (lookOn x) c (viewOn x)
   alike =
-      step-alike (filesIn (x .store)) (filesIn (y .store)) (viewOn x) c (same-look x y (ap (λ (m : Model). m .cells) (sym seen)))
+      step-alike (lookOn x) (lookOn y) (viewOn x) c (same-look x y (ap (λ (m : Model). m .cells) (sym seen)))
       (subst (λ (a : Said). T (not (isLoad c && isDone a))) (answer-known c x sx) n)
 
   pub later-told : toldOf c x ≡ toldOf c y
   later-told =
       told-known c x sx ∙ sym (ap (λ (o : Outcome Model). report c (o .answer) (some (closedDown (viewOn x .house))) (stepRun c (viewOn x))) alike)
-      ∙ ap (stepTold (filesIn (y .store)) c) seen ∙ sym (told-known c y sy)
+      ∙ ap (stepTold (lookOn y) c) seen ∙ sym (told-known c y sy)
 
   pub later-seen : viewOn (afterCall c x) ≡ viewOn (afterCall c y)
   later-seen =
-      after-known c x sx ∙ sym (ap (λ (o : Outcome Model). o .after) alike) ∙ ap (λ (m : Model). step (filesIn (y .store)) c m .after) seen ∙ sym (after-known c y sy)
+      after-known c x sx ∙ sym (ap (λ (o : Outcome Model). o .after) alike) ∙ ap (λ (m : Model). step (lookOn y) c m .after) seen ∙ sym (after-known c y sy)

@@ -3,7 +3,7 @@
 use Prim.Native.Nat.{ℕ, _≤_}
 use mathlib.Core.Path.{_≡_, refl, sym, ap, _∙_}
 use mathlib.Core.Bool.{Bool, true, false, not, _&&_, _||_, cond}
-use mathlib.Core.Option.{Option, some}
+use mathlib.Core.Option.{some}
 use mathlib.Core.List.{List}
 use lib.Dec.{T, leb, eqb}
 use Rattle.combine.specs.laws.Below.{not-both}
@@ -16,8 +16,8 @@ use Rattle.rules.specs.Headings.{isSome}
 use Rattle.rules.specs.Gates.{startGate, imageGate}
 use Rattle.rules.specs.House.{closedDown}
 use Rattle.rules.specs.Runs.{runAnswer, runTold}
-use Rattle.model.specs.Model.{Files, Model}
-use Rattle.model.specs.Step.{Report, report, runOnModel, step, stepRun, stepTold}
+use Rattle.model.specs.Model.{Model}
+use Rattle.model.specs.Step.{Look, Report, report, runOnModel, step, stepRun, stepTold}
 use Rattle.demands.specs.Hearing.{leftFate, hear}
 use Rattle.demands.specs.laws.Hearing.{unstopped, count-heard}
 use Rattle.demands.specs.Abandoning.{isOn, ends, crowded, quiet, isLoad}
@@ -26,13 +26,9 @@ use Rattle.proof_demand3.specs.Eased.{emptied}
 use Rattle.proof_demand3.specs.Another.{carried, request-another}
 use Rattle.proof_demand3.specs.Runs.{carriedRun, run-another}
 
--- what lent images hold
-abbrev pub Look : Type 0
-Look = List ℕ → Option Files
-
 -- the same images are sound
 abbrev pub SameLook : Look → Look → Type 0
-SameLook f g = (img : List ℕ) → isSome (g img) ≡ isSome (f img)
+SameLook f g = (img : List ℕ) → isSome (g .files img) ≡ isSome (f .files img)
 
 -- ---- a start that is refused
 
@@ -51,11 +47,11 @@ load-refused f m n o false b t = refl
 
 -- whatever the state has beside the number of cells
 load-alike : (f g : Look) (h : Model → Model) (m n o : Model) (img : List ℕ) → SameLook f g
-    → T (not (isDone (settle m (imageGate (leb 64 (m .cells)) (isSome (f img)) (done (0, n))) .answer)))
-    → settle (h m) (imageGate (leb 64 (m .cells)) (isSome (g img)) (done (0, o)))
-    ≡ outcomeOf (settle m (imageGate (leb 64 (m .cells)) (isSome (f img)) (done (0, n))) .answer) (h (settle m (imageGate (leb 64 (m .cells)) (isSome (f img)) (done (0, n))) .after))
+    → T (not (isDone (settle m (imageGate (leb 64 (m .cells)) (isSome (f .files img)) (done (0, n))) .answer)))
+    → settle (h m) (imageGate (leb 64 (m .cells)) (isSome (g .files img)) (done (0, o)))
+    ≡ outcomeOf (settle m (imageGate (leb 64 (m .cells)) (isSome (f .files img)) (done (0, n))) .answer) (h (settle m (imageGate (leb 64 (m .cells)) (isSome (f .files img)) (done (0, n))) .after))
 load-alike f g h m n o img same t =
-    ap (λ (b : Bool). settle (h m) (imageGate (leb 64 (m .cells)) b (done (0, o)))) (same img) ∙ load-refused h m n o (leb 64 (m .cells)) (isSome (f img)) t
+    ap (λ (b : Bool). settle (h m) (imageGate (leb 64 (m .cells)) b (done (0, o)))) (same img) ∙ load-refused h m n o (leb 64 (m .cells)) (isSome (f .files img)) t
 
 -- ---- a call that is not the user's by the entry
 

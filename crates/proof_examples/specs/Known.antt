@@ -2,7 +2,7 @@
 use Prim.Native.Nat.{ℕ}
 use mathlib.Core.Path.{_≡_, refl, ap, ap₂, _∙_}
 use mathlib.Core.Bool.{Bool, true, not, _&&_}
-use mathlib.Core.Option.{Option, none, some}
+use mathlib.Core.Option.{none, some}
 use mathlib.Core.List.{List, [], _∷_}
 use lib.Dec.{T, leb}
 use Rattle.combine.specs.Verdict.{Said, done, refuse_when_else_}
@@ -10,7 +10,7 @@ use Rattle.combine.specs.Outcome.{Outcome, settle}
 use Rattle.combine.specs.Run.{runOver}
 use Rattle.names.specs.Names.{symbolsOf, nameOf, scratchName, isScratch}
 use Rattle.placing.specs.Placing.{stretchOf, offsetOf, heldOf, claimOf, slotOf}
-use Rattle.placing.specs.Sizes.{Cells, leastStore, widthOf, elementsOf}
+use Rattle.placing.specs.Sizes.{leastStore, widthOf, elementsOf}
 use Rattle.rules.specs.Calls.{fresh, load, Call, starts, asks, on, runs}
 use Rattle.rules.specs.Access.{writeRule, nextRule, prevRule, newPointerRule, valueRule, renameRule}
 use Rattle.rules.specs.Rules.{lookUp, openNew, openedAs, openOld, headed, closeRule}
@@ -18,12 +18,11 @@ use Rattle.rules.specs.Gates.{userGate, entryGate, startGate, imageGate}
 use Rattle.rules.specs.House.{closedDown}
 use Rattle.rules.specs.Runs.{RunTold, noRun}
 use Rattle.cells.specs.Outcomes.{Lent, lent}
-use Rattle.model.specs.Model.{Files, Model, free}
-use Rattle.model.specs.Step.{Report, report, step, stepRun, stepTold, requestOnModel, runOnModel}
-use Rattle.model.specs.View.{filesIn}
+use Rattle.model.specs.Model.{Model, free}
+use Rattle.model.specs.Step.{Look, Report, report, step, stepRun, stepTold, requestOnModel, runOnModel}
 use Rattle.combine.specs.laws.Tests.{and-first, and-second}
 use Rattle.proof_calls_sound.specs.Keeps.{keeps-sound}
-use Rattle.demands.specs.History.{outcomeOn, afterCall, toldOf, viewOn}
+use Rattle.demands.specs.History.{outcomeOn, afterCall, toldOf, lookOn, viewOn}
 use Rattle.demands.specs.Demands.{Sound}
 use Rattle.demands.specs.Abandoning.{isLoad}
 use Rattle.proof_demand2.specs.Demand2.{told-known, after-known}
@@ -31,8 +30,8 @@ use Rattle.examples.specs.Examples.{answersOn, AnswersSo, runsOn, TellsSo}
 use Rattle.proof_examples.specs.Fresh.{nothingThere, fresh-is-done, fresh-leaves-sound, fresh-leaves-nothing}
 
 -- no image is looked at
-abbrev pub blind : Cells → Option Files
-blind img = none
+abbrev pub blind : Look
+blind = record { files = λ img. none }
 
 abbrev pub noLoadb : List Call → Bool
 noLoadb [] = true
@@ -40,7 +39,7 @@ noLoadb (c ∷ cs) = not (isLoad c) && noLoadb cs
 
 -- ---- one call
 
-step-blind : (look : Cells → Option Files) (c : Call) (m : Model) → T (not (isLoad c)) → step look c m ≡ step blind c m
+step-blind : (look : Look) (c : Call) (m : Model) → T (not (isLoad c)) → step look c m ≡ step blind c m
 step-blind f (starts fresh) m n = refl
 step-blind f (starts (load img)) m n = absurd n
 step-blind f (asks q) m n = refl
@@ -51,13 +50,13 @@ module _ (c : Call) (x : Lent) (s : Sound x) (n : T (not (isLoad c))) where
   pub told-blind : toldOf c x ≡ stepTold blind c (viewOn x)
   told-blind =
       told-known c x s
-      ∙ ap (λ (o : Outcome Model). report c (o .answer) (some (closedDown (viewOn x .house))) (stepRun c (viewOn x))) (step-blind (filesIn (x .store)) c (viewOn x) n)
+      ∙ ap (λ (o : Outcome Model). report c (o .answer) (some (closedDown (viewOn x .house))) (stepRun c (viewOn x))) (step-blind (lookOn x) c (viewOn x) n)
 
   pub answer-blind : outcomeOn c x .answer ≡ step blind c (viewOn x) .answer
   answer-blind = ap (λ (r : Report). r .answer) told-blind
 
   pub after-blind : viewOn (afterCall c x) ≡ step blind c (viewOn x) .after
-  after-blind = after-known c x s ∙ ap (λ (o : Outcome Model). o .after) (step-blind (filesIn (x .store)) c (viewOn x) n)
+  after-blind = after-known c x s ∙ ap (λ (o : Outcome Model). o .after) (step-blind (lookOn x) c (viewOn x) n)
 
 -- ---- the answers of a history
 

@@ -26,10 +26,9 @@ use Rattle.rules.specs.Runs.{requestsOf, admission}
 use Rattle.cells.specs.Outcomes.{Lent, soundLent}
 use Rattle.model.specs.Model.{File, Body, Files, Model, modelLevel}
 use Rattle.model.specs.Step.{requestOnModel, runOnModel, step}
-use Rattle.model.specs.View.{filesIn}
 use Rattle.proof_requests_sound.specs.Allowed.{Allowed, a-new, an-old, PlaceOf, an-end, a-freeing, a-filing, a-use}
 use Rattle.proof_demand2.specs.Demand2.{after-known}
-use Rattle.demands.specs.History.{afterCall, viewOn}
+use Rattle.demands.specs.History.{afterCall, lookOn, viewOn}
 use Rattle.demands.specs.laws.Unsound.{refuses-unsound}
 use Rattle.demands.specs.Private.{isOf, LeavesOthers, WorksOnOwn, ChangesNoneKnown, ChangesNone}
 use Rattle.proof_neighbours.specs.AnsweredFromNone.{own-read}
@@ -147,6 +146,6 @@ unsound-still u (runs v d r) x t e = ap (λ (o : Outcome Lent). o .after) (refus
 
 pub changes-none : ChangesNone
 changes-none u c x t = ⊎-elim
-    (λ s. subst (λ (m : Model). LeavesOthers u (viewOn x .house) (m .house)) (sym (after-known c x s)) (changes-none-known u c (filesIn (x .store)) (viewOn x) t (works-view u x s)))
+    (λ s. subst (λ (m : Model). LeavesOthers u (viewOn x .house) (m .house)) (sym (after-known c x s)) (changes-none-known u c (lookOn x) (viewOn x) t (works-view u x s)))
     (λ e. subst (λ (y : Lent). LeavesOthers u (viewOn x .house) (viewOn y .house)) (sym (unsound-still u c x t e)) (leaves-refl u (viewOn x .house)))
     (split-bool (soundLent (x .store) (x .tables)))

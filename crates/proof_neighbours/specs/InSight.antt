@@ -30,13 +30,13 @@ use Rattle.segments.specs.laws.Sound.{SoundFile, SoundPlace, SoundEntry, SoundH
 use Rattle.tables.specs.Sound.{soundb}
 use Rattle.cells.specs.Says.{houseOf}
 use Rattle.cells.specs.Outcomes.{Lent, lent, soundLent, runOut}
-use Rattle.model.specs.Model.{File, Body, body, Files, Model, model}
-use Rattle.model.specs.Step.{Report, step, stepTold}
-use Rattle.model.specs.View.{viewPlace, viewEntry, viewOpening, view, filesIn}
+use Rattle.model.specs.Model.{File, Body, body, Model, model}
+use Rattle.model.specs.Step.{Look, Report, step, stepTold}
+use Rattle.model.specs.View.{viewPlace, viewEntry, viewOpening, view}
 use Rattle.proof_requests_sound.specs.Counts.{in-at}
 use Rattle.proof_cells_agree.specs.SoundSays.{sound-says}
 use Rattle.proof_demand2.specs.Demand2.{told-known, after-known}
-use Rattle.demands.specs.History.{afterCall, toldOf, viewOn}
+use Rattle.demands.specs.History.{afterCall, toldOf, lookOn, viewOn}
 use Rattle.demands.specs.Demands.{Sound}
 use Rattle.demands.specs.laws.Unsound.{refuses-unsound}
 use Rattle.demands.specs.Private.{isOf, blotFile, blotOpening, blotOpenings, blotted, SameIn, SameInSight, AnsweredFromNone}
@@ -124,7 +124,7 @@ sight-blotted u x s sound sight =
     λ i. model (sight .long i) (house (h .segments) (records-same u h says (x .store) s sight i) (openings-same u h says (x .store) s sight i))
 
 -- no call of a user looks at an image
-blind-told : (u : ℕ) (c : Call) (f g : Cells → Option Files) (m : Model) → T (isOf u c) → stepTold f c m ≡ stepTold g c m
+blind-told : (u : ℕ) (c : Call) (f g : Look) (m : Model) → T (isOf u c) → stepTold f c m ≡ stepTold g c m
 blind-told u (starts c) f g m t = absurd t
 blind-told u (asks (save img)) f g m t = absurd t
 blind-told u (asks (count v)) f g m t = refl
@@ -156,7 +156,7 @@ told-unsound u (runs v d r) x y t p q = go r (run-unsound r v d x p) (run-unsoun
         let told : Ran Lent → Report = λ k. record { answer = runAnswer k; image = none; run = runTold (fills n l) k } in
         ap told e ∙ sym (ap told f)
 
-blind-after : (u : ℕ) (c : Call) (f g : Cells → Option Files) (m : Model) → T (isOf u c) → step f c m .after ≡ step g c m .after
+blind-after : (u : ℕ) (c : Call) (f g : Look) (m : Model) → T (isOf u c) → step f c m .after ≡ step g c m .after
 blind-after u (starts c) f g m t = absurd t
 blind-after u (asks (save img)) f g m t = absurd t
 blind-after u (asks (count v)) f g m t = refl
@@ -176,15 +176,15 @@ module _ (u : ℕ) (c : Call) (x : Lent) (s : Cells) (own : T (isOf u c)) (sight
   told-same : Sound x → toldOf c y ≡ toldOf c x
   told-same sound =
       told-known c y (there true sound)
-      ∙ sym (answered-from-none-known u c (filesIn s) (viewOn y) own .0) ∙ ap (stepTold (filesIn s) c) (sight-blotted u x s sound sight) ∙ answered-from-none-known u c (filesIn s) (viewOn x) own .0
-      ∙ blind-told u c (filesIn s) (filesIn (x .store)) (viewOn x) own ∙ sym (told-known c x sound)
+      ∙ sym (answered-from-none-known u c (lookOn y) (viewOn y) own .0) ∙ ap (stepTold (lookOn y) c) (sight-blotted u x s sound sight) ∙ answered-from-none-known u c (lookOn y) (viewOn x) own .0
+      ∙ blind-told u c (lookOn y) (lookOn x) (viewOn x) own ∙ sym (told-known c x sound)
 
   after-same : Sound x → blotted u (viewOn (afterCall c y)) ≡ blotted u (viewOn (afterCall c x))
   after-same sound =
       ap (blotted u) (after-known c y (there true sound))
-      ∙ sym (answered-from-none-known u c (filesIn s) (viewOn y) own .1) ∙ ap (λ (m : Model). step (filesIn s) c m .after) (sight-blotted u x s sound sight)
-      ∙ answered-from-none-known u c (filesIn s) (viewOn x) own .1
-      ∙ ap (blotted u) (blind-after u c (filesIn s) (filesIn (x .store)) (viewOn x) own ∙ sym (after-known c x sound))
+      ∙ sym (answered-from-none-known u c (lookOn y) (viewOn y) own .1) ∙ ap (λ (m : Model). step (lookOn y) c m .after) (sight-blotted u x s sound sight)
+      ∙ answered-from-none-known u c (lookOn y) (viewOn x) own .1
+      ∙ ap (blotted u) (blind-after u c (lookOn y) (lookOn x) (viewOn x) own ∙ sym (after-known c x sound))
 
 pub answered-from-none : AnsweredFromNone
 answered-from-none u c x s own sight = (

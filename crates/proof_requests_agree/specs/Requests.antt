@@ -6,10 +6,8 @@ use mathlib.Core.Logic.{⊎-elim}
 use mathlib.Core.Bool.{Bool, true}
 use mathlib.Core.Option.{Option, none}
 use mathlib.Core.List.{List}
-use borrow.Author.Tests.{leb-true}
 use lib.ListN.{length, getD}
 use Rattle.combine.specs.laws.Numbers.{le-or-lt}
-use Rattle.combine.specs.laws.Rows.{each-of}
 use Rattle.combine.specs.Verdict.{Verdict, refused, done, onDone}
 use Rattle.combine.specs.Outcome.{Outcome, settle}
 use Rattle.placing.specs.Sizes.{greatestUser, greatestEntry, entryOf, segmentCells, tablesLength}
@@ -23,8 +21,7 @@ use Rattle.segments.specs.Deeds.{segmentLevel}
 use Rattle.segments.specs.State.{State}
 use Rattle.segments.specs.laws.Sound.{SoundHouse}
 use Rattle.tables.specs.Layout.{segmentsIn}
-use Rattle.tables.specs.Sound.{numberb, soundb}
-use Rattle.tables.specs.laws.Sound.{ranged-of}
+use Rattle.tables.specs.laws.Sound.{ranged-of, fits-store}
 use Rattle.cells.specs.Says.{houseOf}
 use Rattle.cells.specs.Outcomes.{Lent, lent, soundLent, performed, requestOut}
 use Rattle.cells.specs.laws.Entered.{user-out, entry-out}
@@ -36,11 +33,6 @@ use Rattle.proof_cells_agree.specs.Canonical.{Canonical, sound-canonical, writt
 use Rattle.proof_cells_agree.specs.SaysSound.{says-sound}
 use Rattle.proof_requests_agree.specs.Fits.{all-fit}
 use Rattle.proof_requests_agree.specs.Agrees.{request-agrees}
-
--- "A number fits a store of at least 64 times as many cells"
-pub fits-store : (cells : ℕ) (t : List ℕ) → soundb cells t ≡ true → segmentCells * segmentsIn t ≤ cells
-unfolding soundb numberb
-fits-store cells t ok = leb-true (segmentCells * segmentsIn t) cells (each-of _ (each-of _ ok .1 .1 .1 .1 .0) .1 .1 .0)
 
 module _ (r : Request) (s t : List ℕ) (u e : ℕ) (sound : soundLent s t ≡ true) where
   -- ---- the tables that a request leaves have their length, and are what is written for what they say

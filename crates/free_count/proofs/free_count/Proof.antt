@@ -17,7 +17,7 @@ unmarked-requires c κs = search needs
 returns : tie.Need-returns
 returns c =
     let s = c .before .before .before .before .before .before in
-    free-counted (now (s .args .tables)) (c .before .before .before .mark-lists .last .1 .0) _ (c .unmarked .ensures) (c .before .before .before .mark-lists .ensures)
+    free-counted (now (s .args .tables)) (c .before .before .before .mark-lists .last .1 .0) _ (c .unmarked .ensures) (c .before .before .before .mark-lists .ensures .1)
 
 pub free-count-spec : {M : Type 1} → statement M
 free-count-spec =

@@ -78,7 +78,7 @@ returns : tie.Need-returns Inv-loop μ-loop
 returns c =
     let s = c .before .before .before in
     let l = c .before .loop in
-    marks-done (notIn (now (s .args .tables))) (now (s .args .marks)) (l .list) lists (l .marks) _ (omega arith) (free-rows (now (s .args .tables)) (s .pre .0)) (l .inv .2)
+    (l .inv .1, marks-done (notIn (now (s .args .tables))) (now (s .args .marks)) (l .list) lists (l .marks) _ (omega arith) (free-rows (now (s .args .tables)) (s .pre .0)) (l .inv .2))
 
 pub mark-lists-spec : {M : Type 1} → statement M
 mark-lists-spec =
