@@ -6,7 +6,7 @@ use common::{answer, check, fresh_desk};
 use std::io::Write;
 use std::process::{Command, Stdio};
 
-const BAD: [&str; 64] = [
+const BAD: [&str; 71] = [
     " ",
     " fresh",
     "fresh ",
@@ -69,6 +69,13 @@ const BAD: [&str; 64] = [
     "lend list0 2113",
     "sum list",
     "sum list2",
+    "tidy ",
+    " tidy",
+    "tidy 0",
+    "tidy 0 0",
+    "Tidy",
+    "tidy\r",
+    "tidyup",
     "help",
     "help 0",
 ];
@@ -85,8 +92,8 @@ fn bad_lines_change_nothing() {
     check(&mut desk, &[("sum list0", "sum 0"), ("writes 8 0 1 0", "rest 40 1"), ("writes 8 0 1 1", "rest 40 1")]);
 }
 
-/// 26 calls and the four lines for tests.
-const GOOD_LINES: usize = 30;
+/// 27 calls and the four lines for tests.
+const GOOD_LINES: usize = 31;
 
 #[test]
 fn help_lists_good_lines() {

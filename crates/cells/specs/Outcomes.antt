@@ -11,17 +11,20 @@ use Rattle.answers.specs.Said.{said}
 use Rattle.combine.specs.Outcome.{Outcome, outcomeOf, settle}
 use Rattle.combine.specs.Run.{Ran, runOver, admitted}
 use Rattle.placing.specs.Sizes.{Cells, leastStore, tablesLength, entryOf, freshSegments}
-use Rattle.rules.specs.Calls.{Request, Start, fresh, load, Question, save, count, Run, Call, starts, asks, on, runs}
+use Rattle.rules.specs.Calls.{Request, Start, fresh, load, Question, save, count, Arranging, tidy, Run, Call, starts, asks, arranges, on, runs}
 use Rattle.rules.specs.Effects.{Effect}
-use Rattle.rules.specs.Gates.{userGate, entryGate, startGate, imageGate}
+use Rattle.rules.specs.Gates.{userGate, entryGate, startGate, imageGate, stillGate}
+use Rattle.rules.specs.House.{hasOpen}
 use Rattle.rules.specs.Levels.{perform, ruled, orBlank}
 use Rattle.rules.specs.Runs.{requestsOf, admission, runAnswer, RunTold, runTold, noRun}
 use Rattle.segments.specs.Free.{SegmentOpening, freeCount}
 use Rattle.segments.specs.Deeds.{segmentLevel, performStore}
+use Rattle.segments.specs.Moves.{movedCells, tidyMoves, tidyCount}
 use Rattle.tables.specs.Layout.{freshTables}
 use Rattle.tables.specs.Sound.{soundb}
 use Rattle.image.specs.Image.{form1, imageLength, imageOf, imageb, tablesFrom}
 use Rattle.cells.specs.Says.{houseOf, written}
+use Rattle.cells.specs.Moved.{movedTables}
 
 -- the cells of the store and of the tables
 pub record Lent : Type 0 where
@@ -86,6 +89,14 @@ saved s t img = record { cells = lent s t; image = img }
 unfoldable pub saveOut : (store tables image : Cells) → Outcome Saved
 saveOut s t img = settle (saved s t img) (imageGate (soundLent s t) (eqb (length img) (imageLength form1)) (done (0, saved s t (imageOf form1 t))))
 
+-- ---- document 02, P13: segments move
+
+-- "With nothing open (else refusal 14), move segments"; "The answer is the count of cells copied"
+unfoldable pub tidyOut : (store tables : Cells) → Outcome Lent
+tidyOut s t =
+    let h = houseOf t in
+    settle (lent s t) (stillGate (soundLent s t) (hasOpen h) (done (tidyCount h, lent (movedCells s (tidyMoves h)) (movedTables (tidyMoves h) t))))
+
 -- ---- any call
 
 abbrev pub startOut : Start → (store tables : Cells) → Outcome Lent
@@ -97,9 +108,13 @@ abbrev pub askOut : Question → (store tables : Cells) → Outcome Cells
 askOut (save img) s t = outcomeOf (saveOut s t img .answer) (saveOut s t img .after .image)
 askOut (count u) s t = outcomeOf (freeOut s t u .answer) []
 
+abbrev pub arrangeOut : Arranging → (store tables : Cells) → Outcome Lent
+arrangeOut tidy s t = tidyOut s t
+
 abbrev pub callOut : Call → (store tables : Cells) → Outcome Lent
 callOut (starts c) s t = startOut c s t
 callOut (asks q) s t = outcomeOf (askOut q s t .answer) (lent s t)
+callOut (arranges a) s t = arrangeOut a s t
 callOut (on u e r) s t = requestOut r s t u e
 callOut (runs u e r) s t = outcomeOf (runAnswer (runOut r s t u e)) (runOut r s t u e .after)
 
@@ -108,6 +123,7 @@ abbrev pub callImage : Call → (store tables : Cells) → Cells
 callImage (starts fresh) s t = []
 callImage (starts (load img)) s t = img
 callImage (asks q) s t = askOut q s t .after
+callImage (arranges a) s t = []
 callImage (on u e r) s t = []
 callImage (runs u e r) s t = []
 
@@ -115,5 +131,6 @@ callImage (runs u e r) s t = []
 abbrev pub callRun : Call → (store tables : Cells) → RunTold
 callRun (starts c) s t = noRun
 callRun (asks q) s t = noRun
+callRun (arranges a) s t = noRun
 callRun (on u e r) s t = noRun
 callRun (runs u e r) s t = runTold r (runOut r s t u e)

@@ -32,6 +32,12 @@ module _ {A : Type 0} where
   joined [] = []
   joined (l ∷ ls) = l ++ joined ls
 
+  -- the elements of two lists, by turns, as far as both go
+  abbrev pub paired : List A → List A → List A
+  paired [] ys = []
+  paired (x ∷ xs) [] = []
+  paired (x ∷ xs) (y ∷ ys) = x ∷ y ∷ paired xs ys
+
   -- n elements from a on
   unfoldable pub part : List A → ℕ → ℕ → List A
   part l a n = take n (drop a l)

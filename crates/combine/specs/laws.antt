@@ -19,3 +19,6 @@ pub mod Mapped
 pub mod Searches
 pub mod Sums
 pub mod Each
+pub mod Counts
+pub mod Pairs
+pub mod Picked

@@ -6,12 +6,12 @@ use mathlib.Core.Bool.{Bool, true, false, not, _&&_, _||_}
 use mathlib.Core.List.{List, [], _∷_, _++_, map}
 use lib.Dec.{T, eqb}
 use Rattle.combine.specs.Verdict.{Said, done, refused, isDone}
-use Rattle.rules.specs.Calls.{Way, Request, opens, closes, abandons, uses, fresh, load, Call, starts, asks, on, runs}
+use Rattle.rules.specs.Calls.{Way, Request, opens, closes, abandons, uses, fresh, load, Call, starts, asks, arranges, on, runs}
 use Rattle.segments.specs.Free.{freeCount}
 use Rattle.cells.specs.Says.{houseOf}
 use Rattle.cells.specs.Outcomes.{Lent}
 use Rattle.demands.specs.History.{outcomeOn, afterCall, viewOn, toldAll, final, those, Each}
-use Rattle.demands.specs.Hearing.{Fate, remains, struck, leftFate, fateIn, heard, answeredAs}
+use Rattle.demands.specs.Hearing.{Fate, remains, struck, leftFate, laterFate, fateIn, heard, answeredAs}
 
 -- ---- calls between an opening of user u by entry e and its abandonment
 
@@ -19,6 +19,7 @@ use Rattle.demands.specs.Hearing.{Fate, remains, struck, leftFate, fateI
 abbrev pub isOn : ℕ → ℕ → Call → Bool
 isOn u e (starts c) = false
 isOn u e (asks q) = false
+isOn u e (arranges q) = false
 isOn u e (on v d r) = eqb u v && eqb e d
 isOn u e (runs v d r) = eqb u v && eqb e d
 
@@ -32,6 +33,7 @@ ending (uses a) = false
 abbrev pub ends : ℕ → ℕ → Call → Bool
 ends u e (starts c) = true
 ends u e (asks q) = false
+ends u e (arranges q) = false
 ends u e (on v d r) = (eqb u v && eqb e d) && ending r
 ends u e (runs v d r) = false
 
@@ -52,6 +54,7 @@ abbrev pub isLoad : Call → Bool
 isLoad (starts fresh) = false
 isLoad (starts (load img)) = true
 isLoad (asks q) = false
+isLoad (arranges q) = false
 isLoad (on v d r) = false
 isLoad (runs v d r) = false
 
@@ -96,10 +99,10 @@ abbrev pub allStay : List Call → List Fate
 allStay cs = map (λ c. remains) cs
 
 abbrev pub wholeFates : Story → List Fate
-wholeFates h = allStay (h .before) ++ struck ∷ (map (betweenFate (h .user) (h .entry)) (h .between) ++ struck ∷ allStay (h .later))
+wholeFates h = allStay (h .before) ++ struck ∷ (map (betweenFate (h .user) (h .entry)) (h .between) ++ struck ∷ map laterFate (h .later))
 
 abbrev pub restFates : Story → List Fate
-restFates h = allStay (h .before) ++ (map leftFate (strike (h .user) (h .entry) (h .between)) ++ allStay (h .later))
+restFates h = allStay (h .before) ++ (map leftFate (strike (h .user) (h .entry) (h .between)) ++ map laterFate (h .later))
 
 -- the opening is done, it goes on till the abandonment, and the others are not crowded out by it
 pub record Abandoned (h : Story) (x : Lent) : Type 0 where
@@ -108,7 +111,7 @@ pub record Abandoned (h : Story) (x : Lent) : Type 0 where
   pub noLoad : NoLoad (h .later) (final (h .before ++ openingCall h ∷ (h .between ++ abandoning h ∷ [])) x)
 
 -- without the opening: "every remaining call gets the same answer, and permanent files, other openings and the number of free segments are
--- the same at the end"; of a saved image all but the segment numbers
+-- the same at the end"; of a saved image all but the segment numbers; document 02, P13: "Demand 3 excepts this count", a tidying's
 pub record NoTrace (h : Story) (x : Lent) : Type 0 where
   pub sameAnswers : heard (wholeFates h) (toldAll (whole h) x) ≡ heard (restFates h) (toldAll (rest h) x)
   pub sameState : viewOn (final (whole h) x) ≡ viewOn (final (rest h) x)

@@ -9,7 +9,7 @@ use Rattle.combine.specs.Below.{countBelow}
 use Rattle.combine.specs.Verdict.{done, refused, isDone}
 use Rattle.combine.specs.Outcome.{outcomeOf}
 use Rattle.placing.specs.Sizes.{greatestUser, segmentCells, openingsStart, tablesLength, lists}
-use Rattle.rules.specs.Calls.{Start, Call, starts, asks, on, runs}
+use Rattle.rules.specs.Calls.{Start, Call, starts, asks, arranges, on, runs}
 use Rattle.rules.specs.House.{closedDown}
 use Rattle.segments.specs.Free.{isFree}
 use Rattle.tables.specs.Layout.{segmentsIn, noneOpen}
@@ -59,6 +59,7 @@ Demand2Start = (c : Start) (x : Lent) → length (x .tables) ≡ tablesLength �
 abbrev pub isStart : Call → Bool
 isStart (starts c) = true
 isStart (asks q) = false
+isStart (arranges q) = false
 isStart (on u e r) = false
 isStart (runs u e r) = false
 

@@ -1,26 +1,40 @@
 -- What is heard of the calls of a history, where two histories are set beside each other. Assumes nothing.
-use mathlib.Core.Bool.{Bool, true, false, cond}
+use mathlib.Core.Bool.{Bool, true, false, _||_, cond}
 use mathlib.Core.List.{List, [], _∷_, _++_, map}
 use lib.Dec.{eqb}
 use Rattle.combine.specs.Verdict.{Said, refused, isDone}
-use Rattle.rules.specs.Calls.{save, count, Call, starts, asks, on, runs}
+use Rattle.rules.specs.Calls.{save, count, Call, starts, asks, arranges, on, runs}
 use Rattle.cells.specs.Outcomes.{Lent, callRun}
 use Rattle.model.specs.Step.{Report}
 use Rattle.demands.specs.History.{outcomeOn, toldAll}
 
--- what becomes of a call: its answer stays; it counts free segments, and where it is done its number may differ; it is struck out itself
+-- what becomes of a call: its answer stays; it counts segments, and where it is done its number may differ; it is struck out itself
 pub data Fate : Type 0 where
   remains counts struck : Fate
 
+-- it counts the free segments
 abbrev pub isCount : Call → Bool
 isCount (starts c) = false
 isCount (asks (save img)) = false
 isCount (asks (count u)) = true
+isCount (arranges q) = false
 isCount (on v d r) = false
 isCount (runs v d r) = false
 
+-- it counts what is copied: "since segment numbers may differ in the struck history"
+abbrev pub isArranging : Call → Bool
+isArranging (starts c) = false
+isArranging (asks q) = false
+isArranging (arranges q) = true
+isArranging (on v d r) = false
+isArranging (runs v d r) = false
+
+-- while there are others' segments; and where as many are free in both histories
 abbrev pub leftFate : Call → Fate
-leftFate c = cond (isCount c) counts remains
+leftFate c = cond (isCount c || isArranging c) counts remains
+
+abbrev pub laterFate : Call → Fate
+laterFate c = cond (isArranging c) counts remains
 
 -- what does not pass is struck out
 abbrev pub fateIn : (Call → Bool) → (Call → Fate) → Call → Fate

@@ -5,6 +5,8 @@ use mathlib.Core.Bool.{Bool, cond}
 use mathlib.Core.List.{List, [], _∷_}
 use Rattle.combine.specs.Outcome.{Outcome}
 use Rattle.rules.specs.Calls.{Call}
+use Rattle.segments.specs.Moves.{tidyCount}
+use Rattle.cells.specs.Says.{houseOf}
 use Rattle.cells.specs.Outcomes.{Lent, callOut, callImage, callRun}
 use Rattle.model.specs.Model.{Model}
 use Rattle.model.specs.Step.{Look, Report, report, step, stepTold}
@@ -26,7 +28,7 @@ viewOn x = view (x .store) (x .tables)
 
 -- what is told from the cells
 abbrev pub lookOn : Lent → Look
-lookOn x = record { files = filesIn (x .store) }
+lookOn x = record { files = filesIn (x .store); copies = tidyCount (houseOf (x .tables)) }
 
 -- ---- a history on cells
 

@@ -9,7 +9,7 @@ use lib.Dec.{T, eqb}
 use lib.ListN.{length, getD}
 use Rattle.combine.specs.Lists.{isIn}
 use Rattle.placing.specs.Sizes.{Cells, segmentCells, userOf}
-use Rattle.rules.specs.Calls.{save, count, Call, starts, asks, on, runs}
+use Rattle.rules.specs.Calls.{save, count, Call, starts, asks, arranges, on, runs}
 use Rattle.rules.specs.Headings.{Open, filing, opening}
 use Rattle.rules.specs.House.{house}
 use Rattle.rules.specs.Readable.{mayRead}
@@ -26,6 +26,7 @@ abbrev pub isOf : (user : ℕ) → Call → Bool
 isOf a (starts c) = false
 isOf a (asks (save img)) = false
 isOf a (asks (count u)) = eqb a u
+isOf a (arranges q) = false
 isOf a (on u e r) = eqb a u
 isOf a (runs u e r) = eqb a u
 

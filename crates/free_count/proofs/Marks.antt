@@ -20,7 +20,7 @@ use Rattle.tables.specs.Lists.{heldIn}
 use Rattle.tables.specs.laws.Sound.{Ranged}
 use Rattle.sound_lists.specs.ListFacts.{list-facts}
 use Rattle.cells.specs.Says.{houseOf}
-use Rattle.free_count.specs.Any.{count-cong}
+use Rattle.combine.specs.laws.Below.{count-cong}
 use Rattle.free_count.specs.Rows.{rowOf, length-row, row-at}
 
 -- ---- what is not marked of the numbers g: what was not marked at first, and passes the first k tests f g

@@ -1,10 +1,10 @@
--- Tests over the numbers below n: joined, counted, and over the elements of a list by index. Assumes nothing.
-use Prim.Native.Nat.{ℕ, zero, suc, _+_, _<_}
-use mathlib.Core.Path.{_≡_, refl, sym, ap, _∙_}
+-- Tests over the numbers below n: joined, and over the elements of a list by index. Assumes nothing.
+use Prim.Native.Nat.{ℕ, zero, suc, _+_}
+use mathlib.Core.Path.{_≡_, sym, ap, _∙_}
 use mathlib.Core.Bool.{Bool, not, _&&_, and-true, and-assoc}
 use native.Mathlib.Omega.{arith}
 use lib.ListN.{getD}
-use Rattle.combine.specs.Below.{allBelow, countBelow}
+use Rattle.combine.specs.Below.{allBelow}
 use Rattle.combine.specs.laws.Below.{all-cong}
 use Rattle.combine.specs.Lists.{any, tab}
 use Rattle.combine.specs.laws.Lists.{length-tab, tab-at}
@@ -19,11 +19,6 @@ all-join m (suc n) f =
     let e : m + suc n ≡ suc (m + n) = omega arith in
     ap (λ (k : ℕ). allBelow k f) e ∙ ap (λ (b : Bool). b && f (m + n)) (all-join m n f)
     ∙ and-assoc (allBelow m f) (allBelow n (λ j. f (m + j))) (f (m + n))
-
-pub count-cong : (f g : ℕ → Bool) (n : ℕ) → ((k : ℕ) → k < n → f k ≡ g k) → countBelow n f ≡ countBelow n g
-unfolding countBelow
-count-cong f g zero h = refl
-count-cong f g (suc n) h = rw (h n (omega arith), count-cong f g n (λ k l. h k (omega arith)))
 
 -- no element of a list by index passes the test
 pub none-tab : {A : Type 0} (f : A → Bool) (n : ℕ) (g : ℕ → A) (z : A) → not (any f (tab n g)) ≡ allBelow n (λ k. not (f (g k)))

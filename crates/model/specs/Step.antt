@@ -9,11 +9,11 @@ use Rattle.combine.specs.Outcome.{Outcome, outcomeOf, settle}
 use Rattle.combine.specs.Run.{Ran, runOver, admitted}
 use Rattle.placing.specs.Sizes.{Cells, leastStore, entryOf}
 use Rattle.image.specs.Image.{form1, imageLength}
-use Rattle.rules.specs.Calls.{Request, Start, fresh, load, Question, save, count, Run, Call, starts, asks, on, runs}
+use Rattle.rules.specs.Calls.{Request, Start, fresh, load, Question, save, count, Arranging, tidy, Run, Call, starts, asks, arranges, on, runs}
 use Rattle.rules.specs.Headings.{Open, isSome}
 use Rattle.rules.specs.Effects.{Effect}
-use Rattle.rules.specs.Gates.{userGate, entryGate, startGate, imageGate}
-use Rattle.rules.specs.House.{closedDown, freshHouse, changed}
+use Rattle.rules.specs.Gates.{userGate, entryGate, startGate, imageGate, stillGate}
+use Rattle.rules.specs.House.{closedDown, hasOpen, freshHouse, changed}
 use Rattle.rules.specs.Levels.{perform, ruled, orBlank}
 use Rattle.rules.specs.Runs.{requestsOf, admission, runAnswer, RunTold, runTold, noRun}
 use Rattle.model.specs.Model.{Body, Files, Model, model, free, modelLevel}
@@ -33,9 +33,10 @@ runOnModel r u e m = admitted m (admission true r u e (m .house)) (runOver (λ q
 
 -- ---- what lists of elements do not say, and the cells do
 
--- what files a lent image holds over the store as it is, none where it is not sound
+-- what files a lent image holds over the store as it is, none where it is not sound; and how many cells a tidying copies
 pub record Look : Type 0 where
   pub files : Cells → Option Files
+  pub copies : ℕ
 
 -- ---- a call
 
@@ -52,9 +53,14 @@ abbrev pub askModel : Question → Model → Said
 askModel (save img) m = imageGate true (eqb (length img) (imageLength form1)) (done 0)
 askModel (count u) m = userGate true u (done (free (m .house)))
 
+-- the answer to a call that arranges segments: users know the same afterwards
+abbrev pub arrangeModel : Look → Arranging → Model → Said
+arrangeModel look tidy m = stillGate true (hasOpen (m .house)) (done (look .copies))
+
 abbrev pub step : Look → Call → Model → Outcome Model
 step look (starts c) m = startOnModel look c m
 step look (asks q) m = outcomeOf (askModel q m) m
+step look (arranges a) m = outcomeOf (arrangeModel look a m) m
 step look (on u e r) m = requestOnModel r u e m
 step look (runs u e r) m = outcomeOf (runAnswer (runOnModel r u e m)) (runOnModel r u e m .after)
 
@@ -62,6 +68,7 @@ step look (runs u e r) m = outcomeOf (runAnswer (runOnModel r u e m)) (runOnMode
 abbrev pub stepRun : Call → Model → RunTold
 stepRun (starts c) m = noRun
 stepRun (asks q) m = noRun
+stepRun (arranges a) m = noRun
 stepRun (on u e r) m = noRun
 stepRun (runs u e r) m = runTold r (runOnModel r u e m)
 
@@ -76,6 +83,7 @@ abbrev pub imageTold : Call → Said → Option Files → Option Files
 imageTold (starts c) a f = none
 imageTold (asks (save img)) a f = cond (isDone a) f none
 imageTold (asks (count u)) a f = none
+imageTold (arranges q) a f = none
 imageTold (on u e r) a f = none
 imageTold (runs u e r) a f = none
 

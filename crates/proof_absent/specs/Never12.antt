@@ -9,12 +9,12 @@ use Rattle.combine.specs.Run.{Ran, runOver}
 use Rattle.combine.specs.laws.Verdict.{Refuses}
 use Rattle.combine.specs.laws.Outcome.{settle-refuses}
 use Rattle.combine.specs.laws.Run.{run-stopped, admitted-stopped}
-use Rattle.rules.specs.Calls.{Request, Start, fresh, load, Question, save, count, Run, Call, starts, asks, on, runs}
+use Rattle.rules.specs.Calls.{Request, Start, fresh, load, Question, save, count, Arranging, tidy, Run, Call, starts, asks, arranges, on, runs}
 use Rattle.rules.specs.Runs.{requestsOf, admission, runAnswer}
-use Rattle.rules.specs.laws.Refusals.{Not12, user-gate-spares, start-gate-spares, image-gate-spares, ruled-spares, admission-spares}
+use Rattle.rules.specs.laws.Refusals.{Not12, user-gate-spares, start-gate-spares, image-gate-spares, still-gate-spares, ruled-spares, admission-spares}
 use Rattle.segments.specs.Deeds.{segmentLevel}
 use Rattle.cells.specs.Says.{houseOf}
-use Rattle.cells.specs.Outcomes.{Lent, soundLent, requestOut, runOut, freeOut, freshOut, loadOut, saveOut, startOut, askOut, callOut, callRun}
+use Rattle.cells.specs.Outcomes.{Lent, soundLent, requestOut, runOut, freeOut, freshOut, loadOut, saveOut, tidyOut, startOut, askOut, arrangeOut, callOut, callRun}
 use Rattle.demands.specs.Absent.{Never12}
 use Rattle.proof_absent.specs.Refused.{openAt, request-refuses}
 
@@ -29,6 +29,10 @@ ask-spares : (q : Question) (x : Lent) → Refuses Not12 (askOut q (x .store) (x
 unfolding saveOut freeOut
 ask-spares (save img) x = settle-refuses Not12 _ _ (image-gate-spares _ tt _ _)
 ask-spares (count u) x = settle-refuses Not12 _ _ (user-gate-spares _ tt _ u)
+
+arrange-spares : (q : Arranging) (x : Lent) → Refuses Not12 (arrangeOut q (x .store) (x .tables) .answer)
+unfolding tidyOut
+arrange-spares tidy x = settle-refuses Not12 _ _ (still-gate-spares _ tt _ _)
 
 module _ (u e : ℕ) where
   request-spares : (r : Request) (x : Lent) → Refuses Not12 (requestOut r (x .store) (x .tables) u e .answer)
@@ -55,6 +59,7 @@ answer-spares r p = go (eqb (r .many) 0 && not (eqb (r .stop) 0))
 spares : (c : Call) (x : Lent) → Refuses Not12 (callOut c (x .store) (x .tables) .answer) × Not12 (callRun c (x .store) (x .tables) .stop)
 spares (starts c) x = (start-spares c x, tt)
 spares (asks q) x = (ask-spares q x, tt)
+spares (arranges q) x = (arrange-spares q x, tt)
 spares (on u e r) x = (request-spares u e r x, tt)
 spares (runs u e r) x = (answer-spares (runOut r (x .store) (x .tables) u e) (run-spares u e r x), run-spares u e r x)
 

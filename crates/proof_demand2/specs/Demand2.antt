@@ -10,7 +10,7 @@ use Rattle.combine.specs.laws.Below.{not-both, split-bool}
 use Rattle.combine.specs.Verdict.{isDone}
 use Rattle.combine.specs.Outcome.{Outcome}
 use Rattle.placing.specs.Sizes.{tablesLength}
-use Rattle.rules.specs.Calls.{Start, fresh, load, save, count, Call, starts, asks, on, runs}
+use Rattle.rules.specs.Calls.{Start, fresh, load, save, count, tidy, Call, starts, asks, arranges, on, runs}
 use Rattle.rules.specs.Runs.{noRun}
 use Rattle.tables.specs.laws.Sound.{ranged-of}
 use Rattle.cells.specs.Outcomes.{Lent, lengthsb}
@@ -23,6 +23,7 @@ use Rattle.demands.specs.Demands.{Sound, Refines, Demand2, Demand2Start, Refine
 use Rattle.demands.specs.laws.Unsound.{refuses-lengths}
 use Rattle.proof_demand2.specs.Calls.{request-agreed, count-agreed, fresh-agreed, load-agreed}
 use Rattle.proof_demand2.specs.Saves.{save-refines}
+use Rattle.proof_demand2.specs.Tidies.{tidy-refines}
 use Rattle.proof_demand2.specs.Runs.{run-refines}
 
 -- ---- "A fresh start and a load don't look at what the tables held"
@@ -41,6 +42,7 @@ pub demand2 : Demand2
 demand2 (starts c) x sound = demand2-start c x (ranged-of (length (x .store)) (x .tables) sound .0)
 demand2 (asks (save img)) x sound = save-refines img x sound
 demand2 (asks (count u)) x sound = λ i. (record { answer = count-agreed (x .store) (x .tables) sound u i; image = none; run = noRun }, viewOn x)
+demand2 (arranges tidy) x sound = tidy-refines x sound
 demand2 (on u e r) x sound =
     let a = request-agreed (x .store) (x .tables) sound r u e in
     λ i. (record { answer = a .answer i; image = none; run = noRun }, a .after i)

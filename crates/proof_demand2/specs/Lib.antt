@@ -2,5 +2,6 @@
 pub mod Calls
 pub mod Freed
 pub mod Saves
+pub mod Tidies
 pub mod Runs
 pub mod Demand2

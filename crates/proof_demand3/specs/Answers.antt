@@ -17,14 +17,14 @@ use Rattle.demands.specs.Hearing.{heard}
 use Rattle.demands.specs.Abandoning.{Story, whole, rest, wholeFates, restFates, NoTrace}
 use Rattle.examples.specs.Examples.{answersOn, runsOn}
 use Rattle.proof_examples.specs.Fresh.{nothingThere}
-use Rattle.proof_examples.specs.Known.{noLoadb, answersKnown, answers-known, runsKnown, runs-known}
+use Rattle.proof_examples.specs.Known.{noLookb, answersKnown, answers-known, runsKnown, runs-known}
 use Rattle.proof_demand3.specs.Started.{startedOver, started-sound, started-known}
 
 -- after a fresh start over so many zero cells
-pub answers-started : (n : ℕ) → leb 64 n ≡ true → (cs : List Call) → T (noLoadb cs) → answersOn cs (startedOver n) ≡ answersKnown cs (nothingThere n)
+pub answers-started : (n : ℕ) → leb 64 n ≡ true → (cs : List Call) → T (noLookb cs) → answersOn cs (startedOver n) ≡ answersKnown cs (nothingThere n)
 answers-started n large cs l = answers-known cs (startedOver n) (started-sound n large) l ∙ ap (answersKnown cs) (started-known n large)
 
-pub runs-started : (n : ℕ) → leb leastStore n ≡ true → (cs : List Call) → T (noLoadb cs) → runsOn cs (startedOver n) ≡ runsKnown cs (nothingThere n)
+pub runs-started : (n : ℕ) → leb leastStore n ≡ true → (cs : List Call) → T (noLookb cs) → runsOn cs (startedOver n) ≡ runsKnown cs (nothingThere n)
 runs-started n large cs l = runs-known cs (startedOver n) (started-sound n large) l ∙ ap (runsKnown cs) (started-known n large)
 
 -- ---- a test of each call and its answer

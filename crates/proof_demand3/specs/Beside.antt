@@ -8,27 +8,25 @@ use mathlib.Core.List.{List}
 use lib.Dec.{T, ltb}
 use lib.ListN.{length}
 use Rattle.combine.specs.Verdict.{Said, isDone}
-use Rattle.combine.specs.Outcome.{Outcome}
 use Rattle.placing.specs.Sizes.{entryOf}
 use Rattle.image.specs.Image.{form1, imageb, tablesFrom}
 use Rattle.cells.specs.Says.{houseOf}
 use Rattle.rules.specs.Calls.{Request, abandons, Run, Call, on, runs}
 use Rattle.rules.specs.Headings.{isSome}
-use Rattle.rules.specs.House.{closedDown}
 use Rattle.cells.specs.Outcomes.{Lent}
 use Rattle.model.specs.Model.{Files, Model}
-use Rattle.model.specs.Step.{Report, report, step, stepRun, stepTold}
+use Rattle.model.specs.Step.{Report, step, stepTold}
 use Rattle.model.specs.View.{viewHouse, view, filesIn}
 use Rattle.proof_calls_sound.specs.Keeps.{keeps-sound}
 use Rattle.demands.specs.History.{outcomeOn, afterCall, toldOf, lookOn, viewOn}
 use Rattle.demands.specs.Demands.{Sound}
-use Rattle.demands.specs.Hearing.{answeredAs}
+use Rattle.demands.specs.Hearing.{laterFate, hear, answeredAs}
 use Rattle.demands.specs.Abandoning.{isOn, ending, quiet, isLoad}
 use Rattle.proof_demand2.specs.Demand2.{told-known, answer-known, after-known}
 use Rattle.proof_demand3.specs.Eased.{emptied}
 use Rattle.proof_demand3.specs.Own.{request-own, abandoned}
 use Rattle.proof_demand3.specs.Runs.{run-own}
-use Rattle.proof_demand3.specs.Steps.{SameLook, answeredIn, ToldAlike, Carried, step-another, step-alike}
+use Rattle.proof_demand3.specs.Steps.{SameLook, answeredIn, ToldAlike, Carried, step-another, Followed, step-alike}
 
 -- whether an image is sound is seen by the store's length
 look-length : (s : List ℕ) (img : List ℕ) → isSome (filesIn s img) ≡ imageb form1 (length s) img
@@ -105,16 +103,15 @@ module _ (u e : ℕ) (x y : Lent) (b : Beside (entryOf u e) x y) where
 -- ---- cells of which users know the same
 
 module _ (x y : Lent) (sx : Sound x) (sy : Sound y) (seen : viewOn x ≡ viewOn y) (c : Call) (n : T (not (isLoad c && isDone (outcomeOn c x .answer)))) where
-  alike : step (lookOn y) c (viewOn x) ≡ step (lookOn x) c (viewOn x)
+  alike : Followed c (lookOn x) (lookOn y) (viewOn x)
   alike =
       step-alike (lookOn x) (lookOn y) (viewOn x) c (same-look x y (ap (λ (m : Model). m .cells) (sym seen)))
       (subst (λ (a : Said). T (not (isLoad c && isDone a))) (answer-known c x sx) n)
 
-  pub later-told : toldOf c x ≡ toldOf c y
+  pub later-told : hear (laterFate c) (toldOf c x) ≡ hear (laterFate c) (toldOf c y)
   later-told =
-      told-known c x sx ∙ sym (ap (λ (o : Outcome Model). report c (o .answer) (some (closedDown (viewOn x .house))) (stepRun c (viewOn x))) alike)
-      ∙ ap (stepTold (lookOn y) c) seen ∙ sym (told-known c y sy)
+      ap (hear (laterFate c)) (told-known c x sx) ∙ alike .told ∙ ap (λ (m : Model). hear (laterFate c) (stepTold (lookOn y) c m)) seen
+      ∙ sym (ap (hear (laterFate c)) (told-known c y sy))
 
   pub later-seen : viewOn (afterCall c x) ≡ viewOn (afterCall c y)
-  later-seen =
-      after-known c x sx ∙ sym (ap (λ (o : Outcome Model). o .after) alike) ∙ ap (λ (m : Model). step (lookOn y) c m .after) seen ∙ sym (after-known c y sy)
+  later-seen = after-known c x sx ∙ sym (alike .after) ∙ ap (λ (m : Model). step (lookOn y) c m .after) seen ∙ sym (after-known c y sy)

@@ -8,11 +8,11 @@ use Rattle.combine.specs.laws.Below.{not-both}
 use Rattle.combine.specs.laws.Tests.{and-first, and-second, true-of, false-of, not-not}
 use Rattle.combine.specs.Verdict.{isDone}
 use Rattle.placing.specs.Sizes.{entryOf}
-use Rattle.rules.specs.Calls.{Request, Run, Call, starts, asks, on, runs}
+use Rattle.rules.specs.Calls.{Request, Run, Call, starts, asks, arranges, on, runs}
 use Rattle.cells.specs.Outcomes.{Lent}
 use Rattle.proof_calls_sound.specs.Keeps.{keeps-sound}
 use Rattle.demands.specs.History.{outcomeOn, afterCall, viewOn, final, those, toldAll}
-use Rattle.demands.specs.Hearing.{Fate, remains, leftFate, fateIn, hear, heard, heardOf, answeredAs}
+use Rattle.demands.specs.Hearing.{Fate, leftFate, laterFate, fateIn, heard, heardOf, answeredAs}
 use Rattle.demands.specs.Demands.{Sound}
 use Rattle.demands.specs.Abandoning.{isOn, ending, quiet, Quiet, isLoad, NoLoad, isElsewhere, betweenFate, strike}
 use Rattle.demands.specs.laws.History.{those-those, each-passes, each-of}
@@ -48,6 +48,7 @@ own-run-at u e v d x y r b p q =
 own-call : (u e : ℕ) (x y : Lent) (c : Call) → Beside (entryOf u e) x y → isOn u e c ≡ true → T (quiet u e c (answeredAs c x)) → Beside (entryOf u e) (afterCall c x) y
 own-call u e x y (starts c) b o q = absurd (not-both o refl)
 own-call u e x y (asks c) b o q = absurd (not-both o refl)
+own-call u e x y (arranges c) b o q = absurd (not-both o refl)
 own-call u e x y (on v d r) b o q =
     let t : T (eqb u v && eqb e d) = rw o tt in
     let going : T (not (((eqb u v && eqb e d) && ending r) && isDone (outcomeOn (on v d r) x .answer))) = goes-on u e (on v d r) (outcomeOn (on v d r) x .answer) q in
@@ -84,7 +85,7 @@ pub record KnownSame (x y : Lent) : Type 0 where
   pub there : Sound y
   pub seen : viewOn x ≡ viewOn y
 
-later : Unwinds (λ c. true) (λ c. remains) (λ c x. T (not (isLoad c && isDone (outcomeOn c x .answer)))) (λ c y. Unit {0}) KnownSame
+later : Unwinds (λ c. true) laterFate (λ c x. T (not (isLoad c && isDone (outcomeOn c x .answer)))) (λ c y. Unit {0}) KnownSame
 later = record {
   left = λ c x y o n k. absurd (not-both refl o);
   right = λ c x y o n k. absurd (not-both refl o);
@@ -93,11 +94,11 @@ later = record {
     there = keeps-sound c y (k .there);
     seen = later-seen x y (k .here) (k .there) (k .seen) c n;
   };
-  told = λ c x y o n t k. ap (hear remains) (later-told x y (k .here) (k .there) (k .seen) c n);
+  told = λ c x y o n t k. later-told x y (k .here) (k .there) (k .seen) c n;
 }
 
 pub record LaterAlike (cs : List Call) (x y : Lent) : Type 0 where
-  pub told : heardOf (λ c. remains) cs x ≡ heardOf (λ c. remains) cs y
+  pub told : heardOf laterFate cs x ≡ heardOf laterFate cs y
   pub after : KnownSame (final cs x) (final cs y)
 
 pub later-alike : (cs : List Call) (x y : Lent) → KnownSame x y → NoLoad cs x → LaterAlike cs x y

@@ -1,7 +1,7 @@
--- Calls one after another as users know the state, where no image is loaded, beside the same calls on cells. Assumes nothing.
+-- Calls one after another as users know the state, where no call is answered from the cells, beside the same calls on cells. Assumes nothing.
 use Prim.Native.Nat.{ℕ}
 use mathlib.Core.Path.{_≡_, refl, ap, ap₂, _∙_}
-use mathlib.Core.Bool.{Bool, true, not, _&&_}
+use mathlib.Core.Bool.{Bool, true, not, _&&_, _||_}
 use mathlib.Core.Option.{none, some}
 use mathlib.Core.List.{List, [], _∷_}
 use lib.Dec.{T, leb}
@@ -11,7 +11,7 @@ use Rattle.combine.specs.Run.{runOver}
 use Rattle.names.specs.Names.{symbolsOf, nameOf, scratchName, isScratch}
 use Rattle.placing.specs.Placing.{stretchOf, offsetOf, heldOf, claimOf, slotOf}
 use Rattle.placing.specs.Sizes.{leastStore, widthOf, elementsOf}
-use Rattle.rules.specs.Calls.{fresh, load, Call, starts, asks, on, runs}
+use Rattle.rules.specs.Calls.{fresh, load, Call, starts, asks, arranges, on, runs}
 use Rattle.rules.specs.Access.{writeRule, nextRule, prevRule, newPointerRule, valueRule, renameRule}
 use Rattle.rules.specs.Rules.{lookUp, openNew, openedAs, openOld, headed, closeRule}
 use Rattle.rules.specs.Gates.{userGate, entryGate, startGate, imageGate}
@@ -24,29 +24,35 @@ use Rattle.combine.specs.laws.Tests.{and-first, and-second}
 use Rattle.proof_calls_sound.specs.Keeps.{keeps-sound}
 use Rattle.demands.specs.History.{outcomeOn, afterCall, toldOf, lookOn, viewOn}
 use Rattle.demands.specs.Demands.{Sound}
+use Rattle.demands.specs.Hearing.{isArranging}
 use Rattle.demands.specs.Abandoning.{isLoad}
 use Rattle.proof_demand2.specs.Demand2.{told-known, after-known}
 use Rattle.examples.specs.Examples.{answersOn, AnswersSo, runsOn, TellsSo}
 use Rattle.proof_examples.specs.Fresh.{nothingThere, fresh-is-done, fresh-leaves-sound, fresh-leaves-nothing}
 
--- no image is looked at
+-- the cells are not looked at
 abbrev pub blind : Look
-blind = record { files = λ img. none }
+blind = record { files = λ img. none; copies = 0 }
 
-abbrev pub noLoadb : List Call → Bool
-noLoadb [] = true
-noLoadb (c ∷ cs) = not (isLoad c) && noLoadb cs
+-- the call is answered from the cells: it loads an image, or counts what is copied
+abbrev pub looks : Call → Bool
+looks c = isLoad c || isArranging c
+
+abbrev pub noLookb : List Call → Bool
+noLookb [] = true
+noLookb (c ∷ cs) = not (looks c) && noLookb cs
 
 -- ---- one call
 
-step-blind : (look : Look) (c : Call) (m : Model) → T (not (isLoad c)) → step look c m ≡ step blind c m
+step-blind : (look : Look) (c : Call) (m : Model) → T (not (looks c)) → step look c m ≡ step blind c m
 step-blind f (starts fresh) m n = refl
 step-blind f (starts (load img)) m n = absurd n
 step-blind f (asks q) m n = refl
+step-blind f (arranges q) m n = absurd n
 step-blind f (on u e r) m n = refl
 step-blind f (runs u e r) m n = refl
 
-module _ (c : Call) (x : Lent) (s : Sound x) (n : T (not (isLoad c))) where
+module _ (c : Call) (x : Lent) (s : Sound x) (n : T (not (looks c))) where
   pub told-blind : toldOf c x ≡ stepTold blind c (viewOn x)
   told-blind =
       told-known c x s
@@ -66,12 +72,12 @@ unfolding refuse_when_else_ settle symbolsOf nameOf scratchName isScratch stretc
 answersKnown [] m = []
 answersKnown (c ∷ cs) m = step blind c m .answer ∷ answersKnown cs (step blind c m .after)
 
-pub answers-known : (cs : List Call) (x : Lent) → Sound x → T (noLoadb cs) → answersOn cs x ≡ answersKnown cs (viewOn x)
+pub answers-known : (cs : List Call) (x : Lent) → Sound x → T (noLookb cs) → answersOn cs x ≡ answersKnown cs (viewOn x)
 unfolding answersKnown
 answers-known [] x s n = refl
 answers-known (c ∷ cs) x s n =
-    let one = and-first (not (isLoad c)) (noLoadb cs) n in
-    let later = answers-known cs (afterCall c x) (keeps-sound c x s) (and-second (not (isLoad c)) (noLoadb cs) n) in
+    let one = and-first (not (looks c)) (noLookb cs) n in
+    let later = answers-known cs (afterCall c x) (keeps-sound c x s) (and-second (not (looks c)) (noLookb cs) n) in
     ap₂ {C = List Said} (λ a l. a ∷ l) (answer-blind c x s one) (later ∙ ap (answersKnown cs) (after-blind c x s one))
 
 -- ---- what the runs of a history tell
@@ -81,17 +87,17 @@ unfolding answersKnown
 runsKnown [] m = []
 runsKnown (c ∷ cs) m = stepRun c m ∷ runsKnown cs (step blind c m .after)
 
-pub runs-known : (cs : List Call) (x : Lent) → Sound x → T (noLoadb cs) → runsOn cs x ≡ runsKnown cs (viewOn x)
+pub runs-known : (cs : List Call) (x : Lent) → Sound x → T (noLookb cs) → runsOn cs x ≡ runsKnown cs (viewOn x)
 unfolding runsKnown
 runs-known [] x s n = refl
 runs-known (c ∷ cs) x s n =
-    let one = and-first (not (isLoad c)) (noLoadb cs) n in
-    let later = runs-known cs (afterCall c x) (keeps-sound c x s) (and-second (not (isLoad c)) (noLoadb cs) n) in
+    let one = and-first (not (looks c)) (noLookb cs) n in
+    let later = runs-known cs (afterCall c x) (keeps-sound c x s) (and-second (not (looks c)) (noLookb cs) n) in
     ap₂ {C = List RunTold} (λ a l. a ∷ l) (ap (λ (r : Report). r .run) (told-blind c x s one)) (later ∙ ap (runsKnown cs) (after-blind c x s one))
 
 -- ---- after a fresh start over n cells
 
-pub answers-after : (n : ℕ) (calls : List Call) (said : List Said) → leb 64 n ≡ true → T (noLoadb calls) → answersKnown calls (nothingThere n) ≡ said
+pub answers-after : (n : ℕ) (calls : List Call) (said : List Said) → leb 64 n ≡ true → T (noLookb calls) → answersKnown calls (nothingThere n) ≡ said
     → AnswersSo n (starts fresh ∷ calls) (done 0 ∷ said)
 unfolding AnswersSo
 answers-after n calls said large none-loaded e s t cells long =
@@ -99,7 +105,7 @@ answers-after n calls said large none-loaded e s t cells long =
     (answers-known calls (afterCall (starts fresh) (lent s t)) (fresh-leaves-sound s t n cells large long) none-loaded
     ∙ ap (answersKnown calls) (fresh-leaves-nothing s t n cells large long) ∙ e)
 
-pub runs-after : (n : ℕ) (calls : List Call) (told : List RunTold) → leb leastStore n ≡ true → T (noLoadb calls) → runsKnown calls (nothingThere n) ≡ told
+pub runs-after : (n : ℕ) (calls : List Call) (told : List RunTold) → leb leastStore n ≡ true → T (noLookb calls) → runsKnown calls (nothingThere n) ≡ told
     → TellsSo n (starts fresh ∷ calls) (noRun ∷ told)
 unfolding TellsSo
 runs-after n calls told large none-loaded e s t cells long =

@@ -15,7 +15,7 @@ use Rattle.combine.specs.laws.Replaced.{map-set}
 use Rattle.combine.specs.laws.Verdict.{Refuses}
 use Rattle.combine.specs.laws.Run.{Related, run-related, admitted-related}
 use Rattle.placing.specs.Sizes.{greatestEntry, entryOf, userOf}
-use Rattle.rules.specs.Calls.{Request, Run, writes, fills, save, count, starts, asks, on, runs}
+use Rattle.rules.specs.Calls.{Request, Run, writes, fills, save, count, starts, asks, arranges, on, runs}
 use Rattle.rules.specs.Headings.{Heading, Open, headOf, handleOf, passes, opening}
 use Rattle.rules.specs.Effects.{Effect, Others}
 use Rattle.rules.specs.Gates.{userGate}
@@ -161,6 +161,7 @@ unfolding userGate
 answered-from-none-known u (starts c) look m t = absurd t
 answered-from-none-known u (asks (save img)) look m t = absurd t
 answered-from-none-known u (asks (count v)) look m t = ((λ k. record { answer = userGate true v (done (free-stays u m k)); image = none; run = noRun }), refl)
+answered-from-none-known u (arranges q) look m t = absurd t
 answered-from-none-known u (on v e r) look m t =
     subst (λ (w : ℕ). (stepTold look (on w e r) (blotted u m) ≡ stepTold look (on w e r) m) × (step look (on w e r) (blotted u m) .after ≡ blotted u (step look (on w e r) m .after))) (eqb→eq u v t)
     (ap (λ (o : Outcome Model). record { answer = o .answer; image = none; run = noRun }) (request-blotted u r e m), ap (λ (o : Outcome Model). o .after) (request-blotted u r e m))

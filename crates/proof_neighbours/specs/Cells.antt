@@ -7,7 +7,7 @@ use mathlib.Core.List.{List, map}
 use lib.Dec.{T, eqb, eqb-refl}
 use lib.ListN.{length, getD, length-map, List·getD-map}
 use Rattle.placing.specs.Sizes.{entryOf, userOf}
-use Rattle.rules.specs.Calls.{Request, opens, closes, abandons, uses, Call, starts, asks, on, runs}
+use Rattle.rules.specs.Calls.{Request, opens, closes, abandons, uses, Call, starts, asks, arranges, on, runs}
 use Rattle.rules.specs.Readable.{mayRead}
 use Rattle.rules.specs.Headings.{Heading, Open, headOf, handleOf, passes, isSome}
 use Rattle.rules.specs.House.{house}
@@ -110,5 +110,6 @@ request-openly (uses act) i x = refl
 pub openly-view : (c : Call) (x : Lent) → openly c (houseOf (x .tables)) ≡ openly c (viewOn x .house)
 openly-view (starts c) x = refl
 openly-view (asks q) x = refl
+openly-view (arranges q) x = refl
 openly-view (on v d r) x = request-openly r (entryOf v d) x
 openly-view (runs v d r) x = refl

@@ -15,7 +15,7 @@ use Rattle.combine.specs.Outcome.{Outcome}
 use Rattle.combine.specs.Run.{Ran, runOver}
 use Rattle.combine.specs.laws.Run.{run-keeps, admitted-keeps, run-map}
 use Rattle.placing.specs.Sizes.{entryOf, userOf}
-use Rattle.rules.specs.Calls.{Request, Act, uses, write, next, Run, writes, fills, save, count, Call, starts, asks, on, runs}
+use Rattle.rules.specs.Calls.{Request, Act, uses, write, next, Run, writes, fills, save, count, Call, starts, asks, arranges, on, runs}
 use Rattle.rules.specs.Headings.{Heading, Open, headOf, handleOf, isSome}
 use Rattle.rules.specs.Effects.{Effect, Use, used, Others}
 use Rattle.rules.specs.Access.{acting}
@@ -123,6 +123,7 @@ pub changes-none-known : ChangesNoneKnown
 changes-none-known u (starts c) look m t works = absurd t
 changes-none-known u (asks (save img)) look m t works = absurd t
 changes-none-known u (asks (count v)) look m t works = leaves-refl u (m .house)
+changes-none-known u (arranges q) look m t works = absurd t
 changes-none-known u (on v e r) look m t works =
     subst (λ (w : ℕ). LeavesOthers u (m .house) (step look (on w e r) m .after .house)) (eqb→eq u v t) (request-leaves u r e m works)
 changes-none-known u (runs v e r) look m t works =
@@ -141,6 +142,7 @@ works-view u x sound i p z f own iz e w there =
 unsound-still : (u : ℕ) (c : Call) (x : Lent) → T (isOf u c) → soundLent (x .store) (x .tables) ≡ false → afterCall c x ≡ x
 unsound-still u (starts c) x t e = absurd t
 unsound-still u (asks q) x t e = refl
+unsound-still u (arranges q) x t e = absurd t
 unsound-still u (on v d r) x t e = ap (λ (o : Outcome Lent). o .after) (refuses-unsound (on v d r) x refl e)
 unsound-still u (runs v d r) x t e = ap (λ (o : Outcome Lent). o .after) (refuses-unsound (runs v d r) x refl e)
 

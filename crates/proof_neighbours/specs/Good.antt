@@ -8,11 +8,12 @@ use lib.Dec.{T}
 use Rattle.combine.specs.Verdict.{Said, isDone}
 use Rattle.cells.specs.Says.{houseOf}
 use Rattle.cells.specs.Outcomes.{Lent, requestOut}
-use Rattle.rules.specs.Calls.{Request, on}
+use Rattle.rules.specs.Calls.{Request, Arranging, arranges, on}
 use Rattle.model.specs.Model.{Model}
 use Rattle.model.specs.Step.{requestOnModel}
 use Rattle.proof_calls_sound.specs.Keeps.{keeps-sound}
 use Rattle.proof_demand2.specs.Calls.{Agrees, request-agreed}
+use Rattle.proof_demand2.specs.Demand2.{after-known}
 use Rattle.demands.specs.History.{outcomeOn, afterCall, viewOn}
 use Rattle.demands.specs.Demands.{Sound}
 use Rattle.proof_neighbours.specs.Neighbours.{NonePublic, openly, hinders}
@@ -38,6 +39,19 @@ module _ (a : ℕ) where
     quietThere = g .quietHere;
     sees = sees-sym a (viewOn x .house) (viewOn y .house) (g .sees);
   }
+
+  -- ---- the operator's moves of segments: users know the same
+
+  pub arranged-good : (x y : Lent) → Good x y → (q : Arranging) → Good x (afterCall (arranges q) y)
+  arranged-good x y g q =
+      let same : viewOn (afterCall (arranges q) y) ≡ viewOn y = after-known (arranges q) y (g .soundThere) in
+      record {
+        soundHere = g .soundHere;
+        soundThere = keeps-sound (arranges q) y (g .soundThere);
+        quietHere = g .quietHere;
+        quietThere = subst (λ (m : Model). NonePublic a (m .house)) (sym same) (g .quietThere);
+        sees = subst (λ (m : Model). SeesSame a (viewOn x .house) (m .house)) (sym same) (g .sees);
+      }
 
   -- ---- another's request that is not done openly
 

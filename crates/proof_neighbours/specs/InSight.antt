@@ -19,7 +19,7 @@ use Rattle.placing.specs.laws.Held.{slot-within}
 use Rattle.store.specs.Store.{segmentOf, elementsIn}
 use Rattle.store.specs.laws.Elements.{element-of-cells}
 use Rattle.store.specs.laws.Files.{elements-ext}
-use Rattle.rules.specs.Calls.{Run, writes, fills, save, count, Call, starts, asks, on, runs}
+use Rattle.rules.specs.Calls.{Run, writes, fills, save, count, Call, starts, asks, arranges, on, runs}
 use Rattle.rules.specs.Gates.{userGate, entryGate}
 use Rattle.rules.specs.Headings.{Open, filing, opening, value}
 use Rattle.rules.specs.House.{house}
@@ -128,6 +128,7 @@ blind-told : (u : ℕ) (c : Call) (f g : Look) (m : Model) → T (isOf u c) → 
 blind-told u (starts c) f g m t = absurd t
 blind-told u (asks (save img)) f g m t = absurd t
 blind-told u (asks (count v)) f g m t = refl
+blind-told u (arranges q) f g m t = absurd t
 blind-told u (on v e r) f g m t = refl
 blind-told u (runs v e r) f g m t = refl
 
@@ -143,6 +144,7 @@ told-unsound u (asks (save img)) x y t p q = absurd t
 told-unsound u (asks (count v)) x y t p q =
     let told : Outcome Lent → Report = λ o. record { answer = o .answer; image = none; run = noRun } in
     ap told (refuses-unsound (asks (count v)) x refl p) ∙ sym (ap told (refuses-unsound (asks (count v)) y refl q))
+told-unsound u (arranges c) x y t p q = absurd t
 told-unsound u (on v d r) x y t p q =
     let told : Outcome Lent → Report = λ o. record { answer = o .answer; image = none; run = noRun } in
     ap told (refuses-unsound (on v d r) x refl p) ∙ sym (ap told (refuses-unsound (on v d r) y refl q))
@@ -160,6 +162,7 @@ blind-after : (u : ℕ) (c : Call) (f g : Look) (m : Model) → T (isOf u c) →
 blind-after u (starts c) f g m t = absurd t
 blind-after u (asks (save img)) f g m t = absurd t
 blind-after u (asks (count v)) f g m t = refl
+blind-after u (arranges q) f g m t = absurd t
 blind-after u (on v e r) f g m t = refl
 blind-after u (runs v e r) f g m t = refl
 

@@ -10,7 +10,7 @@ use lib.Dec.{T, eqb}
 use lib.ListN.{getD}
 use Rattle.combine.specs.Verdict.{Said, done, refused, isDone}
 use Rattle.placing.specs.Sizes.{entryOf, userOf}
-use Rattle.rules.specs.Calls.{Request, opens, closes, abandons, uses, Call, starts, asks, on, runs}
+use Rattle.rules.specs.Calls.{Request, opens, closes, abandons, uses, Call, starts, asks, arranges, on, runs}
 use Rattle.rules.specs.Headings.{Filed, headOf, handleOf, passes}
 use Rattle.rules.specs.House.{House}
 use Rattle.segments.specs.Free.{SegmentHouse}
@@ -57,6 +57,7 @@ asksOpenly (uses a) i h = false
 abbrev pub openly : {C B : Type 0} → Call → House C B → Bool
 openly (starts c) h = true
 openly (asks q) h = false
+openly (arranges q) h = false
 openly (on v d r) h = asksOpenly r (entryOf v d) h
 openly (runs v d r) h = false
 

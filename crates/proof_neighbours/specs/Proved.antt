@@ -9,7 +9,7 @@ use Rattle.combine.specs.laws.Below.{split-bool, not-both}
 use Rattle.combine.specs.laws.Tests.{eqb-eq, false-of}
 use Rattle.combine.specs.Verdict.{isDone}
 use Rattle.combine.specs.Outcome.{Outcome}
-use Rattle.rules.specs.Calls.{Start, save, count, Call, starts, asks, on, runs}
+use Rattle.rules.specs.Calls.{Start, save, count, Call, starts, asks, arranges, on, runs}
 use Rattle.rules.specs.Runs.{noRun}
 use Rattle.cells.specs.Outcomes.{Lent, soundLent}
 use Rattle.cells.specs.laws.Refusals.{refusal-keeps-cells}
@@ -23,7 +23,7 @@ use Rattle.demands.specs.Private.{isOf}
 use Rattle.proof_neighbours.specs.Neighbours.{openly, hindered, Apart, Neighbours}
 use Rattle.proof_neighbours.specs.Twins.{sees-refl}
 use Rattle.proof_neighbours.specs.Cells.{known-view, quiet-view}
-use Rattle.proof_neighbours.specs.Good.{Good, good-sym, other-good, own-answer, own-good}
+use Rattle.proof_neighbours.specs.Good.{Good, good-sym, arranged-good, other-good, own-answer, own-good}
 use Rattle.proof_neighbours.specs.Runs.{other-run-good, own-run-good, own-run-told}
 
 -- ---- a start that is not done changes nothing
@@ -45,6 +45,7 @@ module _ (a : ℕ) where
   still : (c : Call) (x : Lent) → Premise c x → soundLent (x .store) (x .tables) ≡ false → afterCall c x ≡ x
   still (starts c) x t e = start-still c x t
   still (asks q) x t e = ap (λ (o : Outcome Lent). o .after) (refuses-unsound (asks q) x refl e)
+  still (arranges q) x t e = ap (λ (o : Outcome Lent). o .after) (refuses-unsound (arranges q) x refl e)
   still (on u d r) x t e = ap (λ (o : Outcome Lent). o .after) (refuses-unsound (on u d r) x refl e)
   still (runs u d r) x t e = ap (λ (o : Outcome Lent). o .after) (refuses-unsound (runs u d r) x refl e)
 
@@ -70,6 +71,7 @@ module _ (a : ℕ) where
   right-good : (c : Call) (x y : Lent) → isOf a c ≡ false → Premise c y → Good a x y → Good a x (afterCall c y)
   right-good (starts c) x y e p g = subst (Good a x) (sym (start-still c y p)) g
   right-good (asks q) x y e p g = g
+  right-good (arranges q) x y e p g = arranged-good a x y g q
   right-good (on v d r) x y e p g = other-good a x y g v d r (another v e) (rw e at p)
   right-good (runs v d r) x y e p g = other-run-good a x v d (another v e) r y g
 
@@ -85,6 +87,7 @@ module _ (a : ℕ) where
         ∙ sym (ap (hear (leftFate (asks (count u)))) (told-known (asks (count u)) y (g .soundThere))),
     g,
   )
+  own-alike (arranges c) x y e p q g = absurd (not-both e refl)
   own-alike (on v d r) x y e p q g =
       subst (λ (u : ℕ). T (not (hindered (on u d r) x)) → T (not (hindered (on u d r) y)) → OwnAlike (on u d r) x y) (eqb→eq a v (rw e tt))
       (λ s t. (λ i. hear remains (record { answer = own-answer a x y g d r s t i; image = none; run = noRun }), own-good a x y g d r s t))

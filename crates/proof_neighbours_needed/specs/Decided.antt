@@ -21,9 +21,8 @@ use Rattle.proof_calls_sound.specs.Keeps.{keeps-sound}
 use Rattle.demands.specs.History.{outcomeOn, afterCall, toldOf, viewOn, those, Each}
 use Rattle.demands.specs.Hearing.{leftFate, fateIn, hear}
 use Rattle.demands.specs.Demands.{Sound}
-use Rattle.demands.specs.Abandoning.{isLoad}
 use Rattle.proof_examples.specs.Fresh.{nothingThere}
-use Rattle.proof_examples.specs.Known.{blind, noLoadb, told-blind, after-blind}
+use Rattle.proof_examples.specs.Known.{blind, looks, noLookb, told-blind, after-blind}
 use Rattle.proof_demand3.specs.Started.{startedOver, started-known}
 use Rattle.demands.specs.Private.{isOf}
 use Rattle.proof_neighbours.specs.Neighbours.{heardBy, publicAt, opensPublic, QuietStart, Apart, NeighboursBy}
@@ -35,12 +34,12 @@ abbrev pub heardKnown : ℕ → List Call → Model → List Report
 heardKnown a [] m = []
 heardKnown a (c ∷ cs) m = hear (fateIn (isOf a) leftFate c) (stepTold blind c m) ++ heardKnown a cs (step blind c m .after)
 
-pub heard-known : (a : ℕ) (cs : List Call) (x : Lent) → Sound x → T (noLoadb cs) → heardBy a cs x ≡ heardKnown a cs (viewOn x)
+pub heard-known : (a : ℕ) (cs : List Call) (x : Lent) → Sound x → T (noLookb cs) → heardBy a cs x ≡ heardKnown a cs (viewOn x)
 heard-known a [] x s n = refl
 heard-known a (c ∷ cs) x s n =
-    let one = and-first (not (isLoad c)) (noLoadb cs) n in
+    let one = and-first (not (looks c)) (noLookb cs) n in
     ap₂ {C = List Report} (λ k l. k ++ l) (ap (hear (fateIn (isOf a) leftFate c)) (told-blind c x s one))
-    (heard-known a cs (afterCall c x) (keeps-sound c x s) (and-second (not (isLoad c)) (noLoadb cs) n) ∙ ap (heardKnown a cs) (after-blind c x s one))
+    (heard-known a cs (afterCall c x) (keeps-sound c x s) (and-second (not (looks c)) (noLookb cs) n) ∙ ap (heardKnown a cs) (after-blind c x s one))
 
 -- ---- the premises: t tests what is told of the landlord's calls, op what another's left
 
@@ -55,24 +54,24 @@ module _ (t : Report → Bool) (op : Call → SegmentHouse → Bool) (op' : Call
   abbrev hears : Call → Lent → Bool
   hears c x = t (toldOf c x)
 
-  apart-known : (c : Call) (x : Lent) → Sound x → T (not (isLoad c)) → T (apartKnown t op' a c (viewOn x)) → Apart hears op a c x
+  apart-known : (c : Call) (x : Lent) → Sound x → T (not (looks c)) → T (apartKnown t op' a c (viewOn x)) → Apart hears op a c x
   apart-known c x s n = subst (λ (b : Bool). T b) (sym
       (ap (λ (b : Bool). cond (isOf a c) (not (t (toldOf c x))) (not (isDone (outcomeOn c x .answer) && b))) (seen c (afterCall c x))
       ∙ ap₂ (λ (r : Report) (m : Model). cond (isOf a c) (not (t r)) (not (isDone (r .answer) && op' c (m .house)))) (told-blind c x s n) (after-blind c x s n)))
 
-  pub each-apart : (cs : List Call) (x : Lent) → Sound x → T (noLoadb cs) → T (allApart t op' a cs (viewOn x)) → Each (Apart hears op a) cs x
+  pub each-apart : (cs : List Call) (x : Lent) → Sound x → T (noLookb cs) → T (allApart t op' a cs (viewOn x)) → Each (Apart hears op a) cs x
   each-apart [] x s n p = tt
   each-apart (c ∷ cs) x s n p =
-      let one = and-first (not (isLoad c)) (noLoadb cs) n in
+      let one = and-first (not (looks c)) (noLookb cs) n in
       let here : Bool = apartKnown t op' a c (viewOn x) in
       let later : Bool = allApart t op' a cs (step blind c (viewOn x) .after) in (
         apart-known c x s one (and-first here later p),
-        each-apart cs (afterCall c x) (keeps-sound c x s) (and-second (not (isLoad c)) (noLoadb cs) n)
+        each-apart cs (afterCall c x) (keeps-sound c x s) (and-second (not (looks c)) (noLookb cs) n)
             (subst (λ (m : Model). T (allApart t op' a cs m)) (sym (after-blind c x s one)) (and-second here later p)),
       )
 
   -- two histories that tell him otherwise
-  pub refuted : (start : ℕ → Lent → Type 0) (cs ds : List Call) (x : Lent) (m : Model) → Sound x → viewOn x ≡ m → T (noLoadb cs) → T (noLoadb ds)
+  pub refuted : (start : ℕ → Lent → Type 0) (cs ds : List Call) (x : Lent) (m : Model) → Sound x → viewOn x ≡ m → T (noLookb cs) → T (noLookb ds)
       → those (isOf a) cs ≡ those (isOf a) ds → start a x → T (allApart t op' a cs m) → T (allApart t op' a ds m) → (heardKnown a cs m ≡ heardKnown a ds m → ⊥)
       → NeighboursBy hears op start → ⊥
   refuted start cs ds x m s e nc nd same q pc pd differ all =

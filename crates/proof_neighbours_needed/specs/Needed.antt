@@ -6,7 +6,7 @@ use mathlib.Core.List.{List, [], _∷_}
 use lib.ListN.{replicate}
 use Rattle.combine.specs.laws.Below.{not-both}
 use Rattle.combine.specs.Verdict.{isDone}
-use Rattle.rules.specs.Calls.{new, work, read, rename, write, askSpecies, opens, closes, abandons, uses, fresh, load, writes, Call, starts, asks, on, runs}
+use Rattle.rules.specs.Calls.{new, work, read, rename, write, askSpecies, opens, closes, abandons, uses, fresh, load, writes, Call, starts, asks, arranges, on, runs}
 use Rattle.rules.specs.House.{House}
 use Rattle.cells.specs.Says.{houseOf}
 use Rattle.cells.specs.Outcomes.{Lent}
@@ -41,12 +41,14 @@ abbrev pub isFresh : Call → Bool
 isFresh (starts fresh) = true
 isFresh (starts (load img)) = false
 isFresh (asks q) = false
+isFresh (arranges q) = false
 isFresh (on v d r) = false
 isFresh (runs v d r) = false
 
 abbrev pub isOpening : Call → Bool
 isOpening (starts c) = false
 isOpening (asks q) = false
+isOpening (arranges q) = false
 isOpening (on v d (opens w)) = true
 isOpening (on v d (closes public)) = false
 isOpening (on v d abandons) = false
@@ -56,6 +58,7 @@ isOpening (runs v d r) = false
 abbrev pub isClosing : Call → Bool
 isClosing (starts c) = false
 isClosing (asks q) = false
+isClosing (arranges q) = false
 isClosing (on v d (opens w)) = false
 isClosing (on v d (closes public)) = true
 isClosing (on v d abandons) = false

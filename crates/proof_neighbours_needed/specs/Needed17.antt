@@ -10,7 +10,7 @@ use Rattle.rules.specs.Calls.{new, rename, opens, closes, uses, Call, on}
 use Rattle.model.specs.Step.{Report}
 use Rattle.demands.specs.History.{those}
 use Rattle.proof_examples.specs.Fresh.{nothingThere}
-use Rattle.proof_examples.specs.Known.{answersKnown, noLoadb}
+use Rattle.proof_examples.specs.Known.{answersKnown, noLookb}
 use Rattle.proof_demand3.specs.Steps.{answeredIn}
 use Rattle.proof_demand3.specs.ButOne.{refusedFor}
 use Rattle.proof_demand3.specs.Started.{startedOver, started-sound, started-known}
@@ -40,7 +40,7 @@ by9 r = refusedFor 9 (answeredIn r)
 same-calls : those (isOf 0) with17 ≡ those (isOf 0) mine17
 same-calls = refl
 
-none-loaded : T (noLoadb with17)
+none-loaded : T (noLookb with17)
 none-loaded = tt
 
 apart-with : T (allApart by9 openly 0 with17 (nothingThere 64))

@@ -17,7 +17,7 @@ use Rattle.model.specs.Model.{Model}
 use Rattle.model.specs.Step.{Report}
 use Rattle.demands.specs.History.{those, Each}
 use Rattle.proof_examples.specs.Fresh.{nothingThere}
-use Rattle.proof_examples.specs.Known.{answersKnown, noLoadb}
+use Rattle.proof_examples.specs.Known.{answersKnown, noLookb}
 use Rattle.proof_demand3.specs.Steps.{answeredIn}
 use Rattle.proof_demand3.specs.Started.{startedOver, started-sound, started-known}
 use Rattle.demands.specs.Private.{isOf}
@@ -81,7 +81,7 @@ hindersTold r = hinders (answeredIn r)
 same-calls : those (isOf 0) among ≡ those (isOf 0) alone
 same-calls = refl
 
-none-loaded : T (noLoadb among)
+none-loaded : T (noLookb among)
 none-loaded = tt
 
 private-among : T (allApart hindersTold openly 0 among (nothingThere 1024))
@@ -92,7 +92,7 @@ private-alone : T (allApart hindersTold openly 0 alone (nothingThere 1024))
 unfolding answersKnown
 private-alone = tt
 
-module _ (cs : List Call) (n : T (noLoadb cs)) (p : T (allApart hindersTold openly 0 cs (nothingThere 1024))) where
+module _ (cs : List Call) (n : T (noLookb cs)) (p : T (allApart hindersTold openly 0 cs (nothingThere 1024))) where
   premises : Each (Apart hindered openly 0) cs (startedOver 1024)
   premises =
       each-apart hindersTold openly openly openly-view 0 cs (startedOver 1024) (started-sound 1024 refl) n

@@ -23,3 +23,7 @@ module _ {S : Type 0} where
   -- "Save and load: 20, then 22."
   unfoldable pub imageGate : (fit image : Bool) → Verdict S → Verdict S
   imageGate fit image v = startGate fit (refuse 22 when not image else v)
+
+  -- document 02, P13: "With nothing open (else refusal 14)": 20, then 14
+  unfoldable pub stillGate : (sound busy : Bool) → Verdict S → Verdict S
+  stillGate sound busy v = startGate sound (refuse 14 when busy else v)

@@ -7,7 +7,7 @@ use lib.Dec.{eqb}
 use lib.ListN.{set, replicate}
 use Rattle.combine.specs.Lists.{any}
 use Rattle.placing.specs.Sizes.{entries, places, freshSegments}
-use Rattle.rules.specs.Headings.{Handle, Filed, Open, handleOf, passes}
+use Rattle.rules.specs.Headings.{Handle, Filed, Open, isSome, handleOf, passes}
 use Rattle.rules.specs.Effects.{Others}
 
 -- the number of segments, the record at each of 64 places, the opening at each of 32 entries
@@ -23,6 +23,10 @@ module _ {C B : Type 0} where
   -- nothing is open
   abbrev pub closedDown : House C B → House C B
   closedDown h = house (h .segments) (h .records) (replicate entries none)
+
+  -- something is open, to be worked on or only read
+  abbrev pub hasOpen : House C B → Bool
+  hasOpen h = any isSome (h .openings)
 
   -- after a fresh start over so many cells
   abbrev pub freshHouse : (cells : ℕ) → House C B

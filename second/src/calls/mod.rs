@@ -7,3 +7,4 @@ pub mod inquiries;
 pub mod opening;
 pub mod pointers;
 pub mod runs;
+pub mod tidying;

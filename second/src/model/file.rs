@@ -92,6 +92,11 @@ impl File {
         self.segments[place as usize] = segment;
     }
 
+    /// Puts other segments into the list, stretch by stretch; the cells must already lie there.
+    pub fn renumber_segments(&mut self, new_number: impl Fn(Segment) -> Segment) {
+        self.segments.iter_mut().for_each(|segment| *segment = new_number(*segment));
+    }
+
     /// Adds the segment for the stretch of the position that is appended next.
     pub fn add_segment(&mut self, segment: Segment) {
         self.segments.push_back(segment);

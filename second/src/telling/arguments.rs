@@ -66,8 +66,12 @@ impl Teller {
         self.random.pick(entries)
     }
 
+    pub fn open_entries(&self) -> Vec<(u32, u32)> {
+        self.entries_where(|user, entry| self.is_open(user, entry))
+    }
+
     pub fn an_open_entry(&mut self) -> (u32, u32) {
-        let open = self.entries_where(|user, entry| self.is_open(user, entry));
+        let open = self.open_entries();
         self.mostly_from(&open)
     }
 
@@ -141,13 +145,19 @@ impl Teller {
 
     /// One of the records, with its place.
     pub fn a_record(&mut self) -> Option<(usize, Record)> {
-        let records: Vec<(usize, Record)> = match self.catalogue() {
-            Some(catalogue) => {
-                let places = catalogue.records.iter().enumerate();
-                places.filter_map(|(place, record)| Some((place, record.clone()?))).collect()
-            }
-            None => return None,
-        };
+        self.a_record_where(|_| true)
+    }
+
+    /// One of the records that list segments.
+    pub fn a_record_with_segments(&mut self) -> Option<(usize, Record)> {
+        self.a_record_where(|record| !record.file.segments().is_empty())
+    }
+
+    fn a_record_where(&mut self, wanted: impl Fn(&Record) -> bool) -> Option<(usize, Record)> {
+        let places = self.catalogue()?.records.iter().enumerate();
+        let records: Vec<(usize, Record)> = places
+            .filter_map(|(place, record)| Some((place, record.as_ref().filter(|record| wanted(record))?.clone())))
+            .collect();
         if records.is_empty() {
             return None;
         }

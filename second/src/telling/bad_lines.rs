@@ -2,7 +2,7 @@
 
 use super::teller::Teller;
 
-const ODD_LINES: [&[u8]; 90] = [
+const ODD_LINES: [&[u8]; 96] = [
     b"",
     b"#",
     b"# a comment",
@@ -93,6 +93,12 @@ const ODD_LINES: [&[u8]; 90] = [
     b"sum list",
     b"sum list2",
     b"sum list0 0",
+    b"tidy ",
+    b" tidy",
+    b"tidy 0",
+    b"tidy 0 0",
+    b"Tidy",
+    b"tidy\r",
 ];
 
 impl Teller {

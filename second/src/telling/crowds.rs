@@ -2,6 +2,7 @@
 
 use super::arguments::text_of;
 use super::teller::Teller;
+use crate::model::record::Record;
 
 impl Teller {
     /// Records until no place is free, a few tries more, and some of them removed again.
@@ -41,22 +42,26 @@ impl Teller {
         catalogue.map_or(0, |catalogue| catalogue.records.iter().filter(|record| record.is_none()).count())
     }
 
-    /// "Old work renamed to scratch: its record and all segments are freed."
-    pub fn remove_a_record(&mut self) {
+    fn remove_a_record(&mut self) {
         if let Some((_, record)) = self.a_record() {
-            let user = record.owner as u32;
-            let entry = self.closed_entry_of(user);
-            self.open_old("work", user, entry, &text_of(&record.name));
-            for _ in 0..self.random.below(3) {
-                let pointer = self.a_pointer();
-                self.access_through(user, entry, pointer);
-            }
-            self.say_with_name("rename", user, entry, b"");
-            if self.random.chance(15) {
-                self.say(format!("public {} {}", user, entry));
-            }
-            self.say(format!("close {} {}", user, entry));
+            self.remove(&record);
         }
+    }
+
+    /// "Old work renamed to scratch: its record and all segments are freed."
+    pub fn remove(&mut self, record: &Record) {
+        let user = record.owner as u32;
+        let entry = self.closed_entry_of(user);
+        self.open_old("work", user, entry, &text_of(&record.name));
+        for _ in 0..self.random.below(3) {
+            let pointer = self.a_pointer();
+            self.access_through(user, entry, pointer);
+        }
+        self.say_with_name("rename", user, entry, b"");
+        if self.random.chance(15) {
+            self.say(format!("public {} {}", user, entry));
+        }
+        self.say(format!("close {} {}", user, entry));
     }
 
     /// All own pointers, one too many, and what the file's shrinking leaves of them.

@@ -84,6 +84,9 @@ impl Teller {
                 let user = self.random.below(8);
                 self.say(format!("free {}", user));
             }
+            if self.random.chance(20) {
+                self.say("tidy");
+            }
             for _ in 0..self.random.below(3) {
                 self.any_call();
             }

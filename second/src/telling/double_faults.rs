@@ -60,6 +60,7 @@ impl Teller {
         self.say(format!("lend tables {}", TABLES_LENGTH + cells_more - 1));
         self.say(format!("save {}", image));
         self.say(format!("load {}", image));
+        self.say("tidy");
         self.say(format!("lend tables {}", TABLES_LENGTH));
         self.say(format!("save {}", image));
         self.say(format!("load {}", image));
@@ -74,6 +75,7 @@ impl Teller {
         self.say(format!("lend image{} {}", image, IMAGE_LENGTH + 1));
         self.say(format!("poke tables {} 2", permit));
         self.say(format!("save {}", image));
+        self.say("tidy");
         self.say(format!("new 8 4 {}", user));
         self.say(format!("free {}", 8 + user));
         self.run_with_and_without_elements();

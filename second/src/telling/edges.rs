@@ -1,9 +1,7 @@
 //! Positions near the greatest end, and files of 32 segments.
 
-use super::arguments::text_of;
 use super::forging::Shape;
 use super::teller::Teller;
-use crate::rules::name::Name;
 use crate::rules::sizes::GREATEST_END;
 
 impl Teller {
@@ -30,32 +28,14 @@ impl Teller {
         self.work_at_the_edge(user, entry);
     }
 
-    /// A record of some or of 32 segments, put into an image and loaded, or put into the tables.
+    /// A record of some or of 32 segments.
     pub fn open_a_forged_record(&mut self) {
         let held = self.random.pick(&[1, 1, 2, 2, 3, 31, 32, 32, 32]);
-        let image = self.random.index(4);
-        let by_image = self.random.chance(70);
-        if by_image {
-            self.say(format!("save {}", image));
-        }
-        let shape = match self.a_shape(held) {
-            Some(shape) => shape,
+        let (owner, name) = match self.forge_a_record(held) {
+            Some(forged) => forged,
             None => return self.start_anew(),
         };
-        let owner = self.random.below(8);
-        let symbols: Vec<u32> = (0..self.random.between(1, 12)).map(|_| self.random.below(36)).collect();
-        let numbers = self.record_of(owner, &symbols, &shape);
-        let place = self.a_place();
-        if by_image {
-            self.put_into_image(image, place, &numbers);
-            self.say(format!("load {}", image));
-        } else {
-            self.put_into_tables(place, &numbers);
-        }
         self.look();
-        let mut whole_name = [63; 12];
-        whole_name[..symbols.len()].copy_from_slice(&symbols);
-        let name = Name::from_symbols(&whole_name).map(|name| text_of(&name)).unwrap_or_default();
         let entry = self.closed_entry_of(owner);
         let opened = self.open_old("work", owner, entry, &name);
         if self.gives_up_after(&opened) {

@@ -1,9 +1,11 @@
 //! Records and openings made by poking cells, so that they are sound and far from where appending alone leads.
 
+use super::arguments::text_of;
 use super::teller::Teller;
 use crate::cells::fields::{self, opening as of_opening, record as of_record};
 use crate::cells::image::{packed_record, RECORD_CELLS};
 use crate::model::store::Segment;
+use crate::rules::name::Name;
 use crate::rules::sizes::{GREATEST_END, PLACES};
 use crate::rules::species::Species;
 use crate::text::line::BufferName;
@@ -64,6 +66,29 @@ impl Teller {
             numbers[place] = u32::from(segment.0);
         }
         numbers
+    }
+
+    /// A record of so many free segments, put into an image and loaded, or put into the tables: its owner and a text that
+    /// makes its name. Nothing where no segment is free.
+    pub fn forge_a_record(&mut self, held: usize) -> Option<(u32, Vec<u8>)> {
+        let image = self.random.index(4);
+        let by_image = self.random.chance(70);
+        if by_image {
+            self.say(format!("save {}", image));
+        }
+        let shape = self.a_shape(held)?;
+        let owner = self.random.below(8);
+        let symbols: Vec<u32> = (0..self.random.between(1, 12)).map(|_| self.random.below(36)).collect();
+        let numbers = self.record_of(owner, &symbols, &shape);
+        let place = self.a_place();
+        if by_image {
+            self.put_into_image(image, place, &numbers);
+            self.say(format!("load {}", image));
+        } else {
+            self.put_into_tables(place, &numbers);
+        }
+        let name = Name::from_symbols(&numbers[of_record::NAME]).map(|name| text_of(&name));
+        Some((owner, name.unwrap_or_default()))
     }
 
     /// A place without a record, or any.

@@ -17,6 +17,7 @@ impl Teller {
         let one = TABLES_LENGTH as u32;
         let length = self.random.pick(&[one - 1, one + 1, one + 64, 0, 64]);
         self.say(format!("lend tables {}", length));
+        self.say("tidy");
         self.some_calls();
         if self.random.chance(50) {
             self.say("fresh");
@@ -50,6 +51,7 @@ impl Teller {
         let exact = segments * 64;
         let length = self.random.pick(&[0, 1, 63, 64, 65, exact - 1, exact, exact + 1, exact + 64, 65_536, 65_600]);
         self.say(format!("lend store {}", length.min(65_600)));
+        self.say("tidy");
         self.some_calls();
         let image = self.random.below(4);
         match self.random.below(5) {

@@ -16,7 +16,7 @@ impl Teller {
         if nothing_open && self.random.chance(60) {
             return self.open_something();
         }
-        match self.random.weighted(&[10, 8, 3, 6, 45, 7, 12, 3, 2]) {
+        match self.random.weighted(&[10, 8, 3, 6, 45, 7, 12, 3, 2, 2]) {
             0 => self.open_something(),
             1 => self.end_something(),
             2 => {
@@ -32,7 +32,10 @@ impl Teller {
             }
             6 => self.inquire_something(),
             7 => self.look(),
-            _ => self.name_nobody(),
+            8 => self.name_nobody(),
+            _ => {
+                self.say("tidy");
+            }
         }
     }
 

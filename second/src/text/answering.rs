@@ -2,7 +2,7 @@
 
 use super::line::{Line, IMAGES, LISTS};
 use super::words::BadLine;
-use crate::calls::{access, closing, inquiries, opening, pointers, runs};
+use crate::calls::{access, closing, inquiries, opening, pointers, runs, tidying};
 use crate::cells::image::{self, IMAGE_LENGTH};
 use crate::cells::tables::Tables;
 use crate::model::buffer::Buffer;
@@ -103,6 +103,7 @@ impl Desk {
             Line::Next(u, e, p) => access::next(catalogue, u, e, p),
             Line::Prev(u, e, p) => access::prev(catalogue, u, e, p),
             Line::Inquire(u, e, inquiry) => inquiries::inquire(catalogue, u, e, inquiry),
+            Line::Tidy => tidying::tidy(catalogue, store),
             _ => unreachable!("the other lines were answered before"),
         }
     }

@@ -9,10 +9,10 @@ pub const IMAGES: usize = 4;
 pub const LISTS: usize = 2;
 
 /// What `help`, which is a bad line, is told.
-const HELP: &str = "fresh; save I; load I; free U; new U E S; work U E NAME; read U E NAME; rename U E NAME; close U E; \
-    public U E; abandon U E; reset U E; pointer U E P; delete U E P; write U E P X; next U E P; prev U E P; writes U E P L; \
-    nexts U E P L; species U E; claim U E; permit U E; begin U E; end U E; symbol U E K; value U E P; lend BUFFER N; \
-    peek BUFFER I; poke BUFFER I V; sum BUFFER";
+const HELP: &str = "fresh; save I; load I; tidy; free U; new U E S; work U E NAME; read U E NAME; rename U E NAME; \
+    close U E; public U E; abandon U E; reset U E; pointer U E P; delete U E P; write U E P X; next U E P; prev U E P; \
+    writes U E P L; nexts U E P L; species U E; claim U E; permit U E; begin U E; end U E; symbol U E K; value U E P; \
+    lend BUFFER N; peek BUFFER I; poke BUFFER I V; sum BUFFER";
 
 #[derive(Clone, Copy, PartialEq, Eq, Debug)]
 pub enum BufferName {
@@ -28,6 +28,7 @@ pub enum Line {
     Fresh,
     Save(usize),
     Load(usize),
+    Tidy,
     Free(u32),
     New(u32, u32, u32),
     Work(u32, u32, Name),
@@ -58,6 +59,7 @@ impl Line {
             b"fresh" => words(rest).map(|[]: [&[u8]; 0]| Line::Fresh)?,
             b"save" => Line::Save(image_number(rest)?),
             b"load" => Line::Load(image_number(rest)?),
+            b"tidy" => words(rest).map(|[]: [&[u8]; 0]| Line::Tidy)?,
             b"free" => numbers(rest).map(|[u]| Line::Free(u))?,
             b"new" => numbers(rest).map(|[u, e, s]| Line::New(u, e, s))?,
             b"work" => entry_and_name(rest).map(|(u, e, name)| Line::Work(u, e, Name::from_bytes(name)))?,

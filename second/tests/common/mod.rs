@@ -4,6 +4,8 @@ use filing::text::answering::Desk;
 
 #[allow(dead_code)]
 pub mod lists;
+#[allow(dead_code)]
+pub mod scattered;
 
 /// Says each line and compares its answer.
 #[allow(dead_code)]

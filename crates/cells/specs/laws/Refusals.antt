@@ -10,15 +10,16 @@ use Rattle.answers.specs.Said.{said}
 use Rattle.answers.specs.laws.Said.{one-answer}
 use Rattle.combine.specs.Outcome.{Outcome, outcomeOf}
 use Rattle.combine.specs.laws.Outcome.{refusal-keeps}
-use Rattle.rules.specs.Calls.{fresh, load, save, Call, starts, asks, on, runs}
-use Rattle.cells.specs.Outcomes.{Lent, lent, outcome, Saved, saved, callOut, callImage, requestOut, freshOut, loadOut, saveOut}
+use Rattle.rules.specs.Calls.{fresh, load, save, tidy, Call, starts, asks, arranges, on, runs}
+use Rattle.cells.specs.Outcomes.{Lent, lent, outcome, Saved, saved, callOut, callImage, requestOut, freshOut, loadOut, saveOut, tidyOut}
 use Rattle.cells.specs.laws.Runs.{run-refusal}
 
 pub refusal-keeps-cells : (c : Call) (s t : List ℕ) → isDone (callOut c s t .answer) ≡ false → callOut c s t .after ≡ lent s t
-unfolding requestOut freshOut loadOut
+unfolding requestOut freshOut loadOut tidyOut
 refusal-keeps-cells (starts fresh) s t e = refusal-keeps _ _ e
 refusal-keeps-cells (starts (load img)) s t e = refusal-keeps _ _ e
 refusal-keeps-cells (asks q) s t e = refl
+refusal-keeps-cells (arranges tidy) s t e = refusal-keeps _ _ e
 refusal-keeps-cells (on u k r) s t e = refusal-keeps _ _ e
 refusal-keeps-cells (runs u k r) s t e = run-refusal s t u k r e
 

@@ -113,6 +113,11 @@ unfolding allBelow
 all-cong f g zero h = refl
 all-cong f g (suc n) h = rw (all-cong f g n (λ k l. h k (omega arith)), h n (omega arith))
 
+pub count-cong : (f g : ℕ → Bool) (n : ℕ) → ((k : ℕ) → k < n → f k ≡ g k) → countBelow n f ≡ countBelow n g
+unfolding countBelow
+count-cong f g zero h = refl
+count-cong f g (suc n) h = rw (h n (omega arith), count-cong f g n (λ k l. h k (omega arith)))
+
 -- `if !f(..) { return false; }`: what the test says of the value x that f's answer equals
 pub was-false : {r x : Bool} → not r ≡ true → r ≡ x → x ≡ false
 was-false {r} p q = sym q ∙ no-true r p

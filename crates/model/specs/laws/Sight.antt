@@ -14,11 +14,11 @@ use Rattle.combine.specs.Lists.{any, isIn}
 use Rattle.placing.specs.Sizes.{entryOf}
 use Rattle.store.specs.Store.{segmentOf}
 use Rattle.rules.specs.Calls.{Request, Run}
-use Rattle.rules.specs.Headings.{Handle, headOf, handleOf, slotIn, passes}
+use Rattle.rules.specs.Headings.{Handle, headOf, handleOf, slotIn, passes, isSome}
 use Rattle.rules.specs.Rules.{rule}
 use Rattle.rules.specs.Gates.{entryGate}
 use Rattle.rules.specs.Runs.{admits, admission}
-use Rattle.rules.specs.House.{opensPlace, worksPlace, othersOf}
+use Rattle.rules.specs.House.{opensPlace, worksPlace, othersOf, hasOpen}
 use Rattle.rules.specs.Levels.{blank, orBlank, ruled}
 use Rattle.segments.specs.Free.{SegmentRecord, SegmentOpening, SegmentHouse, placeSegments, hasRoom}
 use Rattle.segments.specs.Deeds.{takesAt, segmentLevel}
@@ -87,3 +87,13 @@ admission-seen s r u e h =
     let i = entryOf u e in
     ap (λ (x : Option Handle). entryGate true u e (admits r x))
     (ap handleOf (List·getD-map (viewEntry s (h .records)) (h .openings) i none) ∙ handle-seen s (h .records) (getD (h .openings) i none))
+
+-- ---- whether something is open
+
+any-open : (s : List ℕ) (rs : List (Option SegmentRecord)) (xs : List (Option SegmentOpening)) → any isSome (map (viewEntry s rs) xs) ≡ any isSome xs
+any-open s rs [] = refl
+any-open s rs (none ∷ xs) = any-open s rs xs
+any-open s rs (some x ∷ xs) = refl
+
+pub open-seen : (s : List ℕ) (h : SegmentHouse) → hasOpen (viewHouse s h) ≡ hasOpen h
+open-seen s h = any-open s (h .records) (h .openings)

@@ -15,7 +15,7 @@ use Rattle.rules.specs.Headings.{Heading, Handle, Open, headOf, handleOf
 use Rattle.rules.specs.Effects.{used, Others}
 use Rattle.rules.specs.Access.{writeRule, nextRule, prevRule, newPointerRule, deletePointerRule, valueRule, renameRule, acting}
 use Rattle.rules.specs.Rules.{lookUp, openNew, openRecord, openOld, openWay, closeRule, rule}
-use Rattle.rules.specs.Gates.{userGate, startGate, imageGate}
+use Rattle.rules.specs.Gates.{userGate, startGate, imageGate, stillGate}
 use Rattle.rules.specs.laws.Gates.{gate-refuses}
 use Rattle.rules.specs.House.{House, othersOf}
 use Rattle.rules.specs.Levels.{Level, ruled, orBlank}
@@ -42,6 +42,10 @@ module _ {S : Type 0} (v : Verdict S) (h : Refuses Not12 v) where
   pub image-gate-spares : (fit image : Bool) → Refuses Not12 (imageGate fit image v)
   unfolding imageGate startGate
   image-gate-spares fit image = spares 20 _ _ tt (spares 22 _ _ tt h)
+
+  pub still-gate-spares : (sound busy : Bool) → Refuses Not12 (stillGate sound busy v)
+  unfolding stillGate startGate
+  still-gate-spares sound busy = spares 20 _ _ tt (spares 14 _ _ tt h)
 
 -- ---- acts
 

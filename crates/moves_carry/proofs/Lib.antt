@@ -1,0 +1,4 @@
+-- The proofs of this crate. Assumes nothing.
+pub mod Turns
+pub mod Row
+pub mod Records

@@ -1,0 +1,2 @@
+-- Numbers by a row of cells. Assumes nothing.
+pub mod Numbers

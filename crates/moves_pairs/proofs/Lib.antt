@@ -1,0 +1,2 @@
+-- The proofs of this crate. Assumes nothing.
+pub mod Turns

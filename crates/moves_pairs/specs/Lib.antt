@@ -1,0 +1,2 @@
+-- The kinds of segments in moves. Assumes nothing.
+pub mod Kinds

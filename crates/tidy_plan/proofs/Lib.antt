@@ -1,0 +1,3 @@
+-- The proofs of this crate. Assumes nothing.
+pub mod Sorting
+pub mod Planned

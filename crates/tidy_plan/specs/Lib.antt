@@ -1,0 +1,2 @@
+-- What a segment is to a tidying. Assumes nothing.
+pub mod Kinds
