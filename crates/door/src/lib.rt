@@ -4,7 +4,7 @@ pub mod packed; // an answer as one number
 pub mod version; // the door's version
 pub mod lengths; // the one length of the tables, and of an image
 pub mod naming; // what a byte string names
-pub mod operator; // fresh start, save, load, free segments
+pub mod operator; // fresh start, save, load, free segments, tidying
 pub mod catalogue; // open, rename, close, abandon
 pub mod elements; // pointers, write, next, prev
 pub mod runs; // runs of elements

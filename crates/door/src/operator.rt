@@ -1,7 +1,7 @@
 // The operator's calls, and the number of free segments.
 use crate::packed::pack;
 ghost use mathlib.Core.Path.{_≡_};
-ghost use Rattle.cells.specs.Outcomes.{lent, saved, freshOut, saveOut, loadOut, freeOut};
+ghost use Rattle.cells.specs.Outcomes.{lent, saved, freshOut, saveOut, loadOut, freeOut, tidyOut};
 ghost use Rattle.door.specs.Handed.{handed};
 
 #[no_mangle]
@@ -30,4 +30,11 @@ pub extern "C" fn dorrivand_free(store: &[u32], tables: &[u32], user: u32) -> u6
     ensures { λ r. ⌜ handed r (lent (now (store .entry)) (now (tables .entry))) ≡ freeOut (now (store .entry)) (now (tables .entry)) user ⌝ }
 {
     pack(call_count::free_segments(store, tables, user))
+}
+
+#[no_mangle]
+pub extern "C" fn dorrivand_tidy(store: &mut [u32], tables: &mut [u32]) -> u64
+    ensures { λ r. ⌜ handed r (lent (now (store .exit)) (now (tables .exit))) ≡ tidyOut (now (store .entry)) (now (tables .entry)) ⌝ }
+{
+    pack(call_tidy::tidy(store, tables))
 }

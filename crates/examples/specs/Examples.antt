@@ -11,7 +11,7 @@ use Rattle.placing.specs.Placing.{segment, position, heldOf, claimOf}
 use Rattle.store.specs.Store.{putElement}
 use Rattle.names.specs.Names.{Bytes, nameOf}
 use Rattle.rules.specs.Calls.{new, work, read, rename, reset, newPointer, write, next, prev, askBegin, askEnd, askValue, Request, opens, closes, abandons, uses}
-use Rattle.rules.specs.Calls.{Run, writes, fills, Call, fresh, starts, on, runs}
+use Rattle.rules.specs.Calls.{Run, writes, fills, tidy, Call, fresh, starts, arranges, on, runs}
 use Rattle.rules.specs.Runs.{RunTold, noRun}
 use Rattle.image.specs.Image.{form1, imageLength}
 use Rattle.cells.specs.Outcomes.{Lent, lent, saved, saveOut, callRun}
@@ -185,5 +185,17 @@ looksAbsent =
     ∷ done 0 ∷ done 10 ∷ done 0 ∷ refused 13
     ∷ done 0 ∷ done 0 ∷ refused 11 ∷ []))
 
+-- ---- tidying (document 02, P13)
+
+-- file "a" of 10 is in segment 0, "b" of 20 in segment 1; "a" is removed, so that segment 0 is free
+abbrev pub removesA : List Call
+removesA = makesFileA ++ asked (opens (new 5) ∷ uses (write 1 20) ∷ uses (rename bytesOfB) ∷ closes false ∷ opens (work bytesOfA) ∷ uses (rename []) ∷ closes false ∷ [])
+
+-- one segment goes to number 0, 64 cells are copied, and "b" reads 20
+abbrev pub tidies : Example
+tidies =
+    answers (segmentCells * 3) (starts fresh ∷ (removesA ++ arranges tidy ∷ asked (opens (read bytesOfB) ∷ uses (next 2) ∷ [])))
+    (done 0 ∷ (replicate 11 (done 0) ++ (done 64 ∷ done 0 ∷ done 20 ∷ [])))
+
 abbrev pub worked : List Example
-worked = lift7 ∷ lift ∷ ten ∷ loses ∷ claims ∷ appends ∷ ownPointer ∷ savedFresh ∷ savedFile ∷ givenUp ∷ runsAnswered ∷ runsTold ∷ startsAtTheEnd ∷ looksAbsent ∷ []
+worked = lift7 ∷ lift ∷ ten ∷ loses ∷ claims ∷ appends ∷ ownPointer ∷ savedFresh ∷ savedFile ∷ givenUp ∷ runsAnswered ∷ runsTold ∷ startsAtTheEnd ∷ looksAbsent ∷ tidies ∷ []

@@ -4,7 +4,7 @@ use mathlib.Core.Bool.{true, false, cond}
 use mathlib.Core.Option.{Option, none, some}
 use mathlib.Core.List.{List, [], _∷_}
 use lib.ListN.{drop}
-use Rattle.rules.specs.Calls.{Call, starts, asks, on, count, opens, closes, abandons, uses}
+use Rattle.rules.specs.Calls.{Call, starts, asks, arranges, on, count, opens, closes, abandons, uses}
 use Rattle.rules.specs.Calls as call
 use Rattle.history_words.specs.declared.Numbers.{Numbers}
 use Rattle.history_words.specs.declared.Numbers.the-variants as Numbers
@@ -57,10 +57,15 @@ withName w line Named.Bad = none
 unfoldable pub namedCall : OfName → List ℕ → ℕ → Option Call
 namedCall w line at = withName w line (namedAt line at)
 
+-- fresh, tidy
+abbrev pub aloneCall : List ℕ → Option Call
+aloneCall w =
+    cond (sameb w (102 ∷ 114 ∷ 101 ∷ 115 ∷ 104 ∷ [])) (some (starts call.fresh))
+    (cond (sameb w (116 ∷ 105 ∷ 100 ∷ 121 ∷ [])) (some (arranges call.tidy)) none)
+
 -- a word and its numbers: "a number too many, too few, too large or malformed" is no call
 abbrev pub callOf : List ℕ → Numbers → Option Call
--- fresh
-callOf w Numbers.Zero = cond (sameb w (102 ∷ 114 ∷ 101 ∷ 115 ∷ 104 ∷ [])) (some (starts call.fresh)) none
+callOf w Numbers.Zero = aloneCall w
 -- free
 callOf w (Numbers.One u) = cond (sameb w (102 ∷ 114 ∷ 101 ∷ 101 ∷ [])) (some (asks (count u))) none
 callOf w (Numbers.Two u e) = twoCall (found twoWords OfTwo.Unknown w) u e

@@ -42,11 +42,11 @@ module _ (s t : List ℕ) (y : Told) where
   pub numbers-known : (w : List ℕ) (m k : Numbers) → m ≡ k → y ≡ toldOf (callOf w k) s t → y ≡ toldOf (callOf w m) s t
   numbers-known w m k q r = r ∙ sym (ap (λ x. toldOf (callOf w x) s t) q)
 
-  module _ (b : Bool) (w spelt : List ℕ) (c : Option Call) (e : b ≡ sameb w spelt) where
-    pub word-here : b ≡ true → y ≡ toldOf c s t → y ≡ toldOf (cond (sameb w spelt) c none) s t
+  module _ (b : Bool) (w spelt : List ℕ) (c d : Option Call) (e : b ≡ sameb w spelt) where
+    pub word-here : b ≡ true → y ≡ toldOf c s t → y ≡ toldOf (cond (sameb w spelt) c d) s t
     word-here q r = rw (sym e ∙ q) r
 
-    pub word-other : b ≡ false → y ≡ toldOf none s t → y ≡ toldOf (cond (sameb w spelt) c none) s t
+    pub word-other : b ≡ false → y ≡ toldOf d s t → y ≡ toldOf (cond (sameb w spelt) c d) s t
     word-other q r = rw (sym e ∙ q) r
 
   -- ---- a line with a name

@@ -8,7 +8,7 @@ use history_words::Numbers;
 ghost use mathlib.Core.Path.{_≡_};
 ghost use Rattle.answers.specs.Said.{said};
 ghost use Rattle.cells.specs.Outcomes.{lent};
-ghost use Rattle.history_calls.specs.Calls.{twoCall, threeCall, nameCall, namedCall, callOf, callIn};
+ghost use Rattle.history_calls.specs.Calls.{twoCall, threeCall, nameCall, namedCall, aloneCall, callOf, callIn};
 ghost use Rattle.history_calls.specs.Told.{told, toldOf, replyOf};
 
 // What a line is answered by: a call, a line for tests, a line that is neither.
@@ -116,17 +116,25 @@ fn named(store: &[u32], tables: &mut [u32], word: OfName, line: &[u8], at: usize
     }
 }
 
+// A word that nothing follows.
+fn alone(store: &mut [u32], tables: &mut [u32], word: &[u8]) -> Reply
+    ensures { λ r. ⌜ told r (lent (now (store .exit)) (now (tables .exit))) ≡ toldOf (aloneCall (now (word .entry))) (now (store .entry)) (now (tables .entry)) ⌝ }
+{
+    if history_words::same(word, b"fresh") {
+        return replied(call_fresh::fresh(store, tables));
+    }
+    if history_words::same(word, b"tidy") {
+        return replied(call_tidy::tidy(store, tables));
+    }
+    Reply::Bad
+}
+
 // A word and the numbers after it.
 fn numbered(store: &mut [u32], tables: &mut [u32], word: &[u8], numbers: Numbers) -> Reply
     ensures { λ r. ⌜ told r (lent (now (store .exit)) (now (tables .exit))) ≡ toldOf (callOf (now (word .entry)) numbers) (now (store .entry)) (now (tables .entry)) ⌝ }
 {
     match numbers {
-        Numbers::Zero => {
-            if history_words::same(word, b"fresh") {
-                return replied(call_fresh::fresh(store, tables));
-            }
-            Reply::Bad
-        }
+        Numbers::Zero => alone(store, tables, word),
         Numbers::One(user) => {
             if history_words::same(word, b"free") {
                 return replied(call_count::free_segments(store, tables, user));

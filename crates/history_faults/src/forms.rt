@@ -4,7 +4,8 @@ use crate::parts::Part;
 ghost use lib.ListN.{length};
 ghost use Rattle.history_faults.specs.Parts.{Within};
 
-pub const FORMS: [u8; 625] = *b"fresh; \
+pub const FORMS: [u8; 631] = *b"fresh; \
+    tidy; \
     save IMAGE; \
     load IMAGE; \
     free USER; \

@@ -15,6 +15,7 @@ pub mod Told
 pub mod ButOne
 pub mod Needed9
 pub mod Needed14
+pub mod ExceptedTidying
 pub mod NeededRun
 pub mod SavedImage
 pub mod NeededLoad

@@ -1,4 +1,4 @@
--- The premises of demand 3, decided on the state as its users know it, for a story in which no call is answered from the cells. Assumes nothing.
+-- The premises of demand 3, decided on the state as its users know it, for a story in which no call up to the abandonment is answered from the cells, and no image is loaded after it. Assumes nothing.
 use Prim.Native.Nat.{ℕ}
 use mathlib.Core.Path.{_≡_, refl, sym, ap, _∙_, subst}
 use mathlib.Core.Bool.{Bool, true, false, not, _&&_}
@@ -10,30 +10,18 @@ use Rattle.cells.specs.Outcomes.{Lent}
 use Rattle.model.specs.Model.{Model}
 use Rattle.model.specs.Step.{Report, step, stepTold}
 use Rattle.proof_calls_sound.specs.Keeps.{keeps-sound}
-use Rattle.combine.specs.laws.Tests.{and-first, and-second, nor-first}
+use Rattle.combine.specs.laws.Tests.{and-first, and-second}
 use Rattle.demands.specs.History.{afterCall, viewOn, final}
 use Rattle.demands.specs.Demands.{Sound}
-use Rattle.demands.specs.Hearing.{isArranging}
 use Rattle.demands.specs.Abandoning.{quiet, Quiet, isLoad, NoLoad, Story, openingCall, Abandoned}
-use Rattle.proof_examples.specs.Known.{blind, looks, noLookb, told-blind, answer-blind, after-blind}
+use Rattle.proof_examples.specs.Known.{blind, looks, noLookb, told-blind, answer-blind, after-blind, knownAfter, final-known}
 use Rattle.proof_demand3.specs.Steps.{answeredIn}
-
-abbrev pub knownAfter : List Call → Model → Model
-knownAfter [] m = m
-knownAfter (c ∷ cs) m = knownAfter cs (step blind c m .after)
 
 abbrev pub quietb : ℕ → ℕ → List Call → Model → Bool
 quietb u e [] m = true
 quietb u e (c ∷ cs) m = quiet u e c (answeredIn (stepTold blind c m)) && quietb u e cs (step blind c m .after)
 
 -- ---- histories
-
-pub final-known : (cs : List Call) (x : Lent) → Sound x → T (noLookb cs) → (viewOn (final cs x) ≡ knownAfter cs (viewOn x)) × Sound (final cs x)
-final-known [] x s n = (refl, s)
-final-known (c ∷ cs) x s n =
-    let one = and-first (not (looks c)) (noLookb cs) n in
-    let r = final-known cs (afterCall c x) (keeps-sound c x s) (and-second (not (looks c)) (noLookb cs) n) in
-    (r .0 ∙ ap (knownAfter cs) (after-blind c x s one), r .1)
 
 quiet-known : (u e : ℕ) (cs : List Call) (x : Lent) → Sound x → T (noLookb cs) → T (quietb u e cs (viewOn x)) → Quiet u e cs x
 quiet-known u e [] x s n q = tt
@@ -46,9 +34,13 @@ quiet-known u e (c ∷ cs) x s n q =
           (subst (λ (k : Model). T (quietb u e cs k)) (sym (after-blind c x s one)) (and-second (quiet u e c a) (quietb u e cs m) q)),
     )
 
-never-load : (cs : List Call) (x : Lent) → T (noLookb cs) → NoLoad cs x
+abbrev noLoadb : List Call → Bool
+noLoadb [] = true
+noLoadb (c ∷ cs) = not (isLoad c) && noLoadb cs
+
+never-load : (cs : List Call) (x : Lent) → T (noLoadb cs) → NoLoad cs x
 never-load [] x n = tt
-never-load (c ∷ cs) x n = (go (isLoad c) _ (nor-first (isLoad c) (isArranging c) (and-first (not (looks c)) (noLookb cs) n)), never-load cs (afterCall c x) (and-second (not (looks c)) (noLookb cs) n))
+never-load (c ∷ cs) x n = (go (isLoad c) _ (and-first (not (isLoad c)) (noLoadb cs) n), never-load cs (afterCall c x) (and-second (not (isLoad c)) (noLoadb cs) n))
   where
     go : (a b : Bool) → T (not a) → T (not (a && b))
     go true b t = absurd t
@@ -56,7 +48,7 @@ never-load (c ∷ cs) x n = (go (isLoad c) _ (nor-first (isLoad c) (isArranging 
 
 -- ---- the story
 
-pub abandoned-known : (h : Story) (x : Lent) → Sound x → T (noLookb (h .before)) → T (noLookb (h .between)) → T (noLookb (h .later))
+pub abandoned-known : (h : Story) (x : Lent) → Sound x → T (noLookb (h .before)) → T (noLookb (h .between)) → T (noLoadb (h .later))
     → let m = knownAfter (h .before) (viewOn x) in
     T (isDone (step blind (openingCall h) m .answer)) → T (quietb (h .user) (h .entry) (h .between) (step blind (openingCall h) m .after)) → Abandoned h x
 abandoned-known h x s nb nc nd o q =

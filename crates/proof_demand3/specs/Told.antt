@@ -15,10 +15,10 @@ use Rattle.model.specs.Model.{Model}
 use Rattle.model.specs.Step.{step}
 use Rattle.demands.specs.History.{afterCall, viewOn}
 use Rattle.demands.specs.Abandoning.{Story, openingCall, whole, Abandoned, NoTrace}
-use Rattle.proof_demand3.specs.Premises.{knownAfter, quietb, abandoned-known}
+use Rattle.proof_demand3.specs.Premises.{quietb, abandoned-known}
 use Rattle.proof_demand3.specs.Demand3.{demand3}
 use Rattle.proof_examples.specs.Fresh.{nothingThere, fresh-leaves-sound, fresh-leaves-nothing}
-use Rattle.proof_examples.specs.Known.{blind, answersKnown, answers-after}
+use Rattle.proof_examples.specs.Known.{blind, answersKnown, answers-after, knownAfter}
 use Rattle.examples.specs.Examples.{AnswersSo}
 
 -- ---- the story

@@ -22,7 +22,7 @@ use Rattle.model.specs.Model.{Model, free}
 use Rattle.model.specs.Step.{Look, Report, report, step, stepRun, stepTold, requestOnModel, runOnModel}
 use Rattle.combine.specs.laws.Tests.{and-first, and-second}
 use Rattle.proof_calls_sound.specs.Keeps.{keeps-sound}
-use Rattle.demands.specs.History.{outcomeOn, afterCall, toldOf, lookOn, viewOn}
+use Rattle.demands.specs.History.{outcomeOn, afterCall, toldOf, lookOn, viewOn, final}
 use Rattle.demands.specs.Demands.{Sound}
 use Rattle.demands.specs.Hearing.{isArranging}
 use Rattle.demands.specs.Abandoning.{isLoad}
@@ -79,6 +79,19 @@ answers-known (c ∷ cs) x s n =
     let one = and-first (not (looks c)) (noLookb cs) n in
     let later = answers-known cs (afterCall c x) (keeps-sound c x s) (and-second (not (looks c)) (noLookb cs) n) in
     ap₂ {C = List Said} (λ a l. a ∷ l) (answer-blind c x s one) (later ∙ ap (answersKnown cs) (after-blind c x s one))
+
+-- ---- what users know after a history
+
+abbrev pub knownAfter : List Call → Model → Model
+knownAfter [] m = m
+knownAfter (c ∷ cs) m = knownAfter cs (step blind c m .after)
+
+pub final-known : (cs : List Call) (x : Lent) → Sound x → T (noLookb cs) → (viewOn (final cs x) ≡ knownAfter cs (viewOn x)) × Sound (final cs x)
+final-known [] x s n = (refl, s)
+final-known (c ∷ cs) x s n =
+    let one = and-first (not (looks c)) (noLookb cs) n in
+    let r = final-known cs (afterCall c x) (keeps-sound c x s) (and-second (not (looks c)) (noLookb cs) n) in
+    (r .0 ∙ ap (knownAfter cs) (after-blind c x s one), r .1)
 
 -- ---- what the runs of a history tell
 

@@ -3,4 +3,5 @@ pub mod Fresh
 pub mod OnSegments
 pub mod Known
 pub mod Saved
+pub mod Tidied
 pub mod Worked

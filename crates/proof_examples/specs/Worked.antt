@@ -6,6 +6,7 @@ use mathlib.Core.Bool.{true}
 use mathlib.Core.Option.{none, some}
 use mathlib.Core.List.{[], _∷_}
 use lib.ListN.{replicate}
+use Rattle.combine.specs.Below.{countBelow}
 use Rattle.names.specs.Names.{symbolsOf, nameOf}
 use Rattle.packing.specs.Packing.{putField, putBits}
 use Rattle.placing.specs.Placing.{stretchOf, offsetOf, cellOf, bitOf, heldOf, claimOf}
@@ -14,10 +15,12 @@ use Rattle.store.specs.Store.{putElement}
 use Rattle.rules.specs.Headings.{filing}
 use Rattle.rules.specs.House.{house, freshHouse}
 use Rattle.segments.specs.Free.{SegmentRecord, SegmentHouse}
-use Rattle.examples.specs.Examples.{Holds, AllHold, lift7, lift, ten, loses, claims, appends, ownPointer, savedFresh, bytesOfA, makesFileA, imageWithA, savedFile, givenUp, runsAnswered, runsTold, startsAtTheEnd, looksAbsent, worked}
+use Rattle.segments.specs.Moves.{isListed, listedCount, tidyCount}
+use Rattle.examples.specs.Examples.{Holds, AllHold, lift7, lift, ten, loses, claims, appends, ownPointer, savedFresh, bytesOfA, makesFileA, imageWithA, savedFile, givenUp, runsAnswered, runsTold, startsAtTheEnd, bytesOfB, looksAbsent, removesA, tidies, worked}
 use Rattle.proof_examples.specs.OnSegments.{stateAfter}
 use Rattle.proof_examples.specs.Known.{answersKnown, answers-after, runsKnown, runs-after}
 use Rattle.proof_examples.specs.Saved.{imageBy, Leads, saves-after}
+use Rattle.proof_examples.specs.Tidied.{answers-tidied}
 
 -- ---- numbers
 
@@ -103,8 +106,26 @@ packed-a = refl
 pub saved-file-holds : Holds savedFile
 saved-file-holds = saves-after (segmentCells * 128) makesFileA houseWithA imageWithA refl leads-to-a packed-a
 
+-- ---- tidied: "b" of user 2 is at place 1, in segment 1
+
+abbrev houseWithB : SegmentHouse
+houseWithB =
+    house 3 (none ∷ some (filing (record { owner = 2; name = nameOf bytesOfB; private = true; species = 5; begin = 1; end = 2 }) (1 ∷ [])) ∷ replicate 62 none) (replicate entries none)
+
+leads-to-b : Leads (freshHouse (segmentCells * 3)) removesA houseWithB
+unfolding stateAfter
+leads-to-b = record { going = tt; leads = λ s. refl }
+
+one-goes : tidyCount houseWithB ≡ 64
+unfolding stateAfter tidyCount listedCount isListed countBelow
+one-goes = refl
+
+tidies-holds : Holds tidies
+unfolding answersKnown
+tidies-holds = answers-tidied (segmentCells * 3) removesA _ houseWithB refl leads-to-b refl _ _ 64 tt tt refl one-goes refl
+
 -- ---- all
 
 pub worked-hold : AllHold worked
 worked-hold =
-    (lift7-holds, (lift-holds, (ten-holds, (loses-holds, (claims-holds, (appends-holds, (own-pointer-holds, (saved-fresh-holds, (saved-file-holds, (given-up-holds, (runs-answered-holds, (runs-told-holds, (starts-at-the-end-holds, (looks-absent-holds, tt))))))))))))))
+    (lift7-holds, (lift-holds, (ten-holds, (loses-holds, (claims-holds, (appends-holds, (own-pointer-holds, (saved-fresh-holds, (saved-file-holds, (given-up-holds, (runs-answered-holds, (runs-told-holds, (starts-at-the-end-holds, (looks-absent-holds, (tidies-holds, tt)))))))))))))))

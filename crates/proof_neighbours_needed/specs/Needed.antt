@@ -18,7 +18,7 @@ use Rattle.proof_examples.specs.Known.{answersKnown}
 use Rattle.proof_demand3.specs.Steps.{answeredIn}
 use Rattle.proof_demand3.specs.ButOne.{refusedFor}
 use Rattle.proof_demand3.specs.Started.{startedOver, started-sound, started-known}
-use Rattle.proof_demand3.specs.Premises.{knownAfter, final-known}
+use Rattle.proof_examples.specs.Known.{knownAfter, final-known}
 use Rattle.proof_demand3.specs.Answers.{heardAt, numbers-differ}
 use Rattle.proof_neighbours.specs.Neighbours.{openly, QuietStart, hinders, hindered, NeighboursBy}
 use Rattle.proof_neighbours.specs.Cells.{openly-view}
