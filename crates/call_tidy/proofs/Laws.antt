@@ -4,7 +4,7 @@ use native.Mathlib.Omega.{arith}
 use mathlib.Core.Path.{_≡_, refl, sym, ap, _∙_, subst}
 use mathlib.Core.Bool.{Bool, true, false, not, cond}
 use mathlib.Core.Option.{none, some}
-use mathlib.Core.List.{List}
+use mathlib.Core.List.{List, []}
 use borrow.Author.Tests.{not-true, not-false}
 use lib.Dec.{eqb}
 use lib.ListN.{length, getD, take}
@@ -21,13 +21,16 @@ use Rattle.segments.specs.Moves.{movedCells, isHigh, tidyMoves, tidyCount}
 use Rattle.tables.specs.declared.Opening.{Opening}
 use Rattle.tables.specs.Layout.{openingAt, segmentsIn}
 use Rattle.tables.specs.Fields.{isOpen}
+use Rattle.tables.specs.laws.Sound.{ranged-of}
 use Rattle.sound_lists.specs.FieldCells as cells
 use Rattle.cells.specs.Says.{openingIn, decodedOpening, houseOf}
 use Rattle.cells.specs.Moved.{movedTables}
 use Rattle.cells.specs.Outcomes.{lent, soundLent, tidyOut}
 use Rattle.proof_cells_agree.specs.There.{opening-at}
+use Rattle.proof_cells_agree.specs.Canonical.{sound-canonical}
 use Rattle.proof_moves.specs.Tidying.{tidy-inside}
 use Rattle.proof_moves.specs.Outcome.{tidy-done}
+use Rattle.call_tidy.proofs.Unmoved.{unmoved}
 
 -- ---- whether something is open
 
@@ -76,3 +79,10 @@ unfolding tidyCount
 carried-out s t l s′ t′ r ok still er el es et =
     (λ i. outcomeOf (done (64 * er i)) (lent ((es ∙ ap (movedCells s) el) i) ((et ∙ ap (λ (x : List ℕ). movedTables x t) el) i)))
     ∙ tidy-done s t ok still
+
+-- nothing moves
+pub none-carried : (s t room : List ℕ) (r : ℕ) → r ≡ 0 → soundLent s t ≡ true → hasOpen (houseOf t) ≡ false → r ≡ countBelow (houseOf t .segments) (isHigh (houseOf t))
+    → take (2 * r) room ≡ tidyMoves (houseOf t) → outcomeOf (done 0) (lent s t) ≡ tidyOut s t
+none-carried s t room r z ok still er el =
+    let long = ranged-of (length s) t ok .0 in
+    carried-out s t [] s t 0 ok still (sym z ∙ er) (ap (λ (k : ℕ). take (2 * k) room) (sym z) ∙ el) refl (sym (unmoved t long (sound-canonical (length s) t ok)))

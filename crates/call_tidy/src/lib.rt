@@ -41,6 +41,9 @@ pub fn tidy(store: &mut [u32], tables: &mut [u32]) -> Answer
     }
     let mut room = [0u32; ROOM];
     let count = tidy_plan::plan(tables, &mut room);
+    if count == 0 {
+        return Answer::Done(0);
+    }
     moves_carry::carry(store, tables, &room[0..2 * count]);
     let cells = (SEGMENT_CELLS * count) as u32;
     Answer::Done(cells)

@@ -29,10 +29,11 @@ isArranging (arranges q) = true
 isArranging (on v d r) = false
 isArranging (runs v d r) = false
 
--- while there are others' segments; and where as many are free in both histories
+-- of a call in two histories that need not have as many segments free
 abbrev pub leftFate : Call → Fate
 leftFate c = cond (isCount c || isArranging c) counts remains
 
+-- of one in two histories that have as many free, which may be others
 abbrev pub laterFate : Call → Fate
 laterFate c = cond (isArranging c) counts remains
 

@@ -1,6 +1,5 @@
 -- "A history is a list of calls with the numbers and lists lent to them, an image lent to be read among these; each call gets the
 -- store and tables as the one before left them, and nobody writes there between." Assumes nothing.
-use Prim.Native.Nat.{ℕ}
 use mathlib.Core.Bool.{Bool, cond}
 use mathlib.Core.List.{List, [], _∷_}
 use Rattle.combine.specs.Outcome.{Outcome}

@@ -1,16 +1,16 @@
 -- The row of a record's numbers, replaced in the tables, is the record renumbered. Assumes nothing.
-use Prim.Native.Nat.{ℕ, _+_, _-_, _*_, _≤_, _<_}
+use Prim.Native.Nat.{ℕ, _+_, _-_, _≤_, _<_}
 use native.Mathlib.Omega.{arith}
 use mathlib.Core.Path.{_≡_, refl, sym, ap, _∙_, subst, subst₃}
 use mathlib.Core.Logic.{⊎-elim}
 use mathlib.Core.Bool.{true, false, cond}
 use mathlib.Core.Option.{Option, none, some}
-use mathlib.Core.List.{List, [], _∷_, _++_, map, append-assoc}
+use mathlib.Core.List.{List, _++_, map}
 use borrow.Author.Tests.{ne-eqb}
 use borrow.Rule.Slice.PartMut.{putMid}
 use lib.Dec.{eqb}
-use lib.ListN.{length, getD, take, drop, replicate, length-append, length-map, take-append-drop}
-use lib.Seq.{paste, paste-zero, take-at, take-all, drop-at, drop-drop, drop-append-add, length-take-le}
+use lib.ListN.{length, getD, take, drop, replicate, length-map}
+use lib.Seq.{paste, paste-zero}
 use Rattle.combine.specs.Lists.{part}
 use Rattle.combine.specs.laws.Below.{split-bool, not-both}
 use Rattle.combine.specs.laws.Between.{part-between, put-all-between}
@@ -18,13 +18,12 @@ use Rattle.combine.specs.laws.Parts.{length-part}
 use Rattle.combine.specs.laws.Rows.{each-of}
 use Rattle.placing.specs.Placing.{heldOf}
 use Rattle.placing.specs.Sizes.{places, tablesLength}
-use Rattle.rules.specs.Headings.{Heading, filing}
+use Rattle.rules.specs.Headings.{filing}
 use Rattle.segments.specs.Free.{SegmentRecord}
 use Rattle.segments.specs.Moves.{renumberedRecord}
 use Rattle.segments.specs.laws.Sound.{SoundPlace, SoundFiled}
 use Rattle.tables.specs.Layout.{segmentNumber, recordBase, recordOf, recordCells, recordAt, putRecord}
 use Rattle.tables.specs.Fields.{isUsed, heldByRecord}
-use Rattle.tables.specs.Handles.{bit}
 use Rattle.tables.specs.Records.{recordb, usedb}
 use Rattle.tables.specs.laws.Again.{ShapedRecord, numbers-again}
 use Rattle.tables.specs.laws.ExtentFacts.{SoundExtent}
@@ -32,76 +31,15 @@ use Rattle.tables.specs.laws.Put.{record-shaped-at}
 use Rattle.tables.specs.laws.RecordFacts.{usedb-facts}
 use Rattle.tables.specs.laws.Rows.{record-row, put-record-again}
 use Rattle.sound_lists.specs.FieldCells as cells
-use Rattle.cells.specs.Says.{recordIn, inPlaces, decodedRecord, asRecord}
+use Rattle.cells.specs.Says.{recordIn, decodedRecord, asRecord}
 use Rattle.cells.specs.Moved.{renumberedAt}
 use Rattle.cells.specs.laws.Determined.{record-back}
 use Rattle.proof_cells_agree.specs.There.{held-used}
 use Rattle.proof_cells_agree.specs.Records.{place-sound}
 use Rattle.free_count.specs.Rows.{part-part, take-part}
-
--- ---- the middle of a list is replaced
-
-paste-mid : (x y w m : List ℕ) (a n : ℕ) → length x ≡ a → length y ≡ n → length m ≡ n → paste (x ++ (y ++ w)) a m n ≡ x ++ (m ++ w)
-paste-mid x y w m a n lx ly lm =
-    let after : drop (a + n) (x ++ (y ++ w)) ≡ w =
-    ap (λ (k : ℕ). drop (k + n) (x ++ (y ++ w))) (sym lx) ∙ drop-append-add x (y ++ w) n ∙ drop-at y w n ly in
-    (λ i. (take-at x (y ++ w) a lx i ++ take-all n m (omega arith) i) ++ after i)
-    ∙ append-assoc x m w
-
--- ---- the cells of a record that is used
-
-front : Heading → List ℕ
-front h = 1 ∷ (h .name ++ (h .owner ∷ bit (h .private) ∷ h .species ∷ h .begin ∷ h .end ∷ []))
-
-zeros : List ℕ → List ℕ
-zeros l = replicate (32 - length l) 0
-
-cells-of : (q : SegmentRecord) → recordCells (asRecord (some q)) ≡ front (q .head) ++ (q .content ++ zeros (q .content))
-unfolding recordCells asRecord inPlaces front zeros
-cells-of q =
-    let h = q .head in
-    let l = q .content in
-    ap (λ (x : List ℕ). 1 ∷ (h .name ++ (h .owner ∷ bit (h .private) ∷ h .species ∷ h .begin ∷ h .end ∷ x))) (numbers-again (l ++ replicate (32 - length l) 0))
-    ∙ ap (λ (x : List ℕ). 1 ∷ x) (sym (append-assoc (h .name) (h .owner ∷ bit (h .private) ∷ h .species ∷ h .begin ∷ h .end ∷ []) (l ++ replicate (32 - length l) 0)))
-
-length-front : (h : Heading) → length (h .name) ≡ 12 → length (front h) ≡ 18
-unfolding front
-length-front h e = let a = length-append (h .name) (h .owner ∷ bit (h .private) ∷ h .species ∷ h .begin ∷ h .end ∷ []) in omega arith
-
--- ---- a row of the tables
+use Rattle.moves_carry.proofs.Fields.{front, zeros, cells-of, length-front, replaced}
 
 module _ (f : ℕ → ℕ) (t : List ℕ) (long : length t ≡ tablesLength) (p : ℕ) (lp : p < places) where
-  base : ℕ
-  base = recordBase p
-
-  around : take (recordBase p) t ++ (part t (recordBase p) 50 ++ drop (recordBase p + 50) t) ≡ t
-  unfolding part
-  around =
-      ap (λ (x : List ℕ). take (recordBase p) t ++ (take 50 (drop (recordBase p) t) ++ x)) (sym (drop-drop 50 (recordBase p) t))
-      ∙ ap (λ (x : List ℕ). take (recordBase p) t ++ x) (take-append-drop 50 (drop (recordBase p) t))
-      ∙ take-append-drop (recordBase p) t
-
-  -- the cells c of the record, in front and after its numbers
-  replaced : (P L Z M : List ℕ) → part t (recordBase p) 50 ≡ P ++ (L ++ Z) → length P ≡ 18 → length M ≡ length L → length (P ++ (L ++ Z)) ≡ 50
-      → paste t (recordBase p + 18) M (length L) ≡ paste t (recordBase p) (P ++ (M ++ Z)) 50
-  replaced P L Z M e lP lM lc =
-      let A : List ℕ = take (recordBase p) t in
-      let B : List ℕ = drop (recordBase p + 50) t in
-      let lA : length (take (recordBase p) t) ≡ recordBase p = length-take-le (recordBase p) t (omega arith) in
-      let whole : take (recordBase p) t ++ ((P ++ (L ++ Z)) ++ drop (recordBase p + 50) t) ≡ t =
-      ap (λ (x : List ℕ). take (recordBase p) t ++ (x ++ drop (recordBase p + 50) t)) (sym e) ∙ around in
-      let inner : (K : List ℕ) → take (recordBase p) t ++ ((P ++ (K ++ Z)) ++ drop (recordBase p + 50) t) ≡ (take (recordBase p) t ++ P) ++ (K ++ (Z ++ drop (recordBase p + 50) t)) =
-      λ K. ap (λ (x : List ℕ). take (recordBase p) t ++ x) (append-assoc P (K ++ Z) (drop (recordBase p + 50) t) ∙ ap (λ (x : List ℕ). P ++ x) (append-assoc K Z (drop (recordBase p + 50) t)))
-      ∙ sym (append-assoc (take (recordBase p) t) P (K ++ (Z ++ drop (recordBase p + 50) t))) in
-      let lN : length (P ++ (M ++ Z)) ≡ 50 =
-      (let a = length-append P (M ++ Z) in let b = length-append M Z in let c = length-append P (L ++ Z) in let d = length-append L Z in omega arith) in
-      let lAP : length (take (recordBase p) t ++ P) ≡ recordBase p + 18 = (let a = length-append (take (recordBase p) t) P in omega arith) in
-      ap (λ (x : List ℕ). paste x (recordBase p + 18) M (length L)) (sym whole ∙ inner L)
-      ∙ paste-mid (take (recordBase p) t ++ P) L (Z ++ drop (recordBase p + 50) t) M (recordBase p + 18) (length L) lAP refl lM
-      ∙ sym (inner M)
-      ∙ sym (paste-mid (take (recordBase p) t) (P ++ (L ++ Z)) (drop (recordBase p + 50) t) (P ++ (M ++ Z)) (recordBase p) 50 lA lc lN)
-      ∙ ap (λ (x : List ℕ). paste x (recordBase p) (P ++ (M ++ Z)) 50) whole
-
   module _ (n : ℕ) (ok : recordb n (recordAt t p) ≡ true) where
     shaped : ShapedRecord (recordAt t p)
     shaped = record-shaped-at t long p lp
@@ -153,7 +91,7 @@ module _ (f : ℕ → ℕ) (t : List ℕ) (long : length t ≡ tablesLength) (p 
         let same : part t (recordBase p + 18) h ≡ L = ap (part t (recordBase p + 18)) eh ∙ sym row in
         let z : zeros L ≡ zeros (map f L) = ap (λ (k : ℕ). replicate (32 - k) 0) (sym (length-map L f)) in
         (λ i. paste t (recordBase p + 18) (map f (same i)) (sym lL i))
-        ∙ replaced (front (q .head)) L (zeros L) (map f L) cells (length-front (q .head) (s .twelve)) (length-map L f) (ap length (sym cells) ∙ c50)
+        ∙ replaced t long p lp (front (q .head)) L (zeros L) (map f L) cells (length-front (q .head) (s .twelve)) (length-map L f) (ap length (sym cells) ∙ c50)
         ∙ ap (λ (x : List ℕ). paste t (recordBase p) (front (q .head) ++ (map f L ++ x)) 50) z
         ∙ ap (λ (x : List ℕ). paste t (recordBase p) x 50) (sym (cells-of (filing (q .head) (map f L))))
         ∙ goal u
@@ -177,10 +115,10 @@ module _ (f : ℕ → ℕ) (t : List ℕ) (long : length t ≡ tablesLength) (p 
         goal u = ap (λ (y : Option SegmentRecord). asRecord y) (says-none u ∙ ap (renumberedRecord f) (sym (says-none u)))
 
     -- the row of the numbers that the record holds, replaced in the tables
-    pub row-renumbered : (h : ℕ) → h ≡ heldByRecord (recordAt t p) → paste t (recordBase p + 18) (map f (part t (recordBase p + 18) h)) h ≡ renumberedAt f p t
+    row-renumbered : (h : ℕ) → h ≡ heldByRecord (recordAt t p) → paste t (recordBase p + 18) (map f (part t (recordBase p + 18) h)) h ≡ renumberedAt f p t
     row-renumbered h e = ⊎-elim (λ u. used-renumbered u h e) (λ u. unused-renumbered u h e) (split-bool (isUsed (recordAt t p)))
 
-    pub row-fits : (h : ℕ) → h ≡ heldByRecord (recordAt t p) → h ≤ 32
+    row-fits : (h : ℕ) → h ≡ heldByRecord (recordAt t p) → h ≤ 32
     row-fits h e = ⊎-elim (λ u. omega (arith, few-held u)) (λ u. omega (arith, none-held u)) (split-bool (isUsed (recordAt t p)))
 
     used-low : isUsed (recordAt t p) ≡ true → (k : ℕ) → k < heldByRecord (recordAt t p) → getD (part t (recordBase p + 18) (heldByRecord (recordAt t p))) k 0 < n
@@ -192,29 +130,11 @@ module _ (f : ℕ → ℕ) (t : List ℕ) (long : length t ≡ tablesLength) (p 
         let size : length (part t (recordBase p + 18) (heldByRecord (recordAt t p))) ≡ heldByRecord (recordAt t p) = length-part t (recordBase p + 18) (heldByRecord (recordAt t p)) (let c = few-held u in omega arith) in
         subst (λ (l : List ℕ). getD l k 0 < n) row (s .file .range k (let e = ap length row in omega arith))
 
-    pub row-low : (h : ℕ) → h ≡ heldByRecord (recordAt t p) → (k : ℕ) → k < h → getD (part t (recordBase p + 18) h) k 0 < n
+    row-low : (h : ℕ) → h ≡ heldByRecord (recordAt t p) → (k : ℕ) → k < h → getD (part t (recordBase p + 18) h) k 0 < n
     row-low h e k l = ⊎-elim
         (λ u. subst (λ (m : ℕ). getD (part t (recordBase p + 18) m) k 0 < n) (sym e) (used-low u k (omega arith)))
         (λ u. absurd (let c = none-held u in let z : ⊥ = omega arith in z))
         (split-bool (isUsed (recordAt t p)))
-
-    -- the row as the code lends it
-    pub lent-low : n ≤ 1024 → (h : ℕ) → h ≡ heldByRecord (recordAt t p) → (k : ℕ) → k < length (take (recordBase p + 18 + h - (recordBase p + 18)) (drop (recordBase p + 18) t))
-        → getD (take (recordBase p + 18 + h - (recordBase p + 18)) (drop (recordBase p + 18) t)) k 0 < 1024
-    lent-low few h e k l =
-        let b = part-between t (recordBase p + 18) h in
-        let size : length (part t (recordBase p + 18) h) ≡ h = length-part t (recordBase p + 18) h (let c = row-fits h e in omega arith) in
-        let lk : k < h = (let q = ap length b in omega arith) in
-        subst (λ (x : List ℕ). getD x k 0 < 1024) (sym b) (let z = row-low h e k lk in omega arith)
-
-    pub lent-renumbered : (h : ℕ) → h ≡ heldByRecord (recordAt t p) → (ys : List ℕ) → ys ≡ map f (take (recordBase p + 18 + h - (recordBase p + 18)) (drop (recordBase p + 18) t))
-        → putMid (recordBase p + 18) (recordBase p + 18 + h - (recordBase p + 18)) t ys ≡ renumberedAt f p t
-    lent-renumbered h e ys q =
-        let b = part-between t (recordBase p + 18) h in
-        let m : List ℕ = map f (part t (recordBase p + 18) h) in
-        let size : length (map f (part t (recordBase p + 18) h)) ≡ h =
-        length-map (part t (recordBase p + 18) h) f ∙ length-part t (recordBase p + 18) h (let c = row-fits h e in omega arith) in
-        put-all-between t (map f (part t (recordBase p + 18) h)) (recordBase p + 18) h (q ∙ ap (map f) b) size ∙ row-renumbered h e
 
     -- what its cells say
     extent-ok : (recordAt t p .used ≡ 0 → ⊥) → SoundExtent (recordAt t p .species) (recordAt t p .begin .0) (recordAt t p .end .0)
@@ -224,6 +144,30 @@ module _ (f : ℕ → ℕ) (t : List ℕ) (long : length t ≡ tablesLength) (p 
     pub extent-cells : (getD t (recordBase p) 0 ≡ 0 → ⊥) → SoundExtent (getD t (recordBase p + 15) 0) (getD t (recordBase p + 16) 0) (getD t (recordBase p + 17) 0)
     extent-cells d = subst₃ SoundExtent (cells.species-cell t p) (cells.begin-cell t p) (cells.end-cell t p) (extent-ok (λ e. d (sym (cells.used-cell t p) ∙ e)))
 
-    pub held-cells : (h : ℕ) → h ≡ cond (eqb (getD t (recordBase p) 0) 0) 0 (heldOf (getD t (recordBase p + 15) 0) (getD t (recordBase p + 16) 0) (getD t (recordBase p + 17) 0)) → h ≡ heldByRecord (recordAt t p)
+    -- so many are held, as the code finds
+    abbrev Held : ℕ → Type 0
+    Held h = h ≡ cond (eqb (getD t (recordBase p) 0) 0) 0 (heldOf (getD t (recordBase p + 15) 0) (getD t (recordBase p + 16) 0) (getD t (recordBase p + 17) 0))
+
+    held-cells : (h : ℕ) → Held h → h ≡ heldByRecord (recordAt t p)
     unfolding heldByRecord
     held-cells h e = e ∙ sym (λ j. cond (eqb (cells.used-cell t p j) 0) 0 (heldOf (cells.species-cell t p j) (cells.begin-cell t p j) (cells.end-cell t p j)))
+
+    -- the row as the code lends it
+    pub lent-few : (h : ℕ) → Held h → h ≤ 32
+    lent-few h e = row-fits h (held-cells h e)
+
+    pub lent-low : n ≤ 1024 → (h : ℕ) → Held h → (k : ℕ) → k < length (take (recordBase p + 18 + h - (recordBase p + 18)) (drop (recordBase p + 18) t))
+        → getD (take (recordBase p + 18 + h - (recordBase p + 18)) (drop (recordBase p + 18) t)) k 0 < 1024
+    lent-low few h e k l =
+        let b = part-between t (recordBase p + 18) h in
+        let size : length (part t (recordBase p + 18) h) ≡ h = length-part t (recordBase p + 18) h (let c = lent-few h e in omega arith) in
+        let lk : k < h = (let q = ap length b in omega arith) in
+        subst (λ (x : List ℕ). getD x k 0 < 1024) (sym b) (let z = row-low h (held-cells h e) k lk in omega arith)
+
+    pub lent-renumbered : (h : ℕ) → Held h → (ys : List ℕ) → ys ≡ map f (take (recordBase p + 18 + h - (recordBase p + 18)) (drop (recordBase p + 18) t))
+        → putMid (recordBase p + 18) (recordBase p + 18 + h - (recordBase p + 18)) t ys ≡ renumberedAt f p t
+    lent-renumbered h e ys q =
+        let b = part-between t (recordBase p + 18) h in
+        let size : length (map f (part t (recordBase p + 18) h)) ≡ h =
+        length-map (part t (recordBase p + 18) h) f ∙ length-part t (recordBase p + 18) h (let c = lent-few h e in omega arith) in
+        put-all-between t (map f (part t (recordBase p + 18) h)) (recordBase p + 18) h (q ∙ ap (map f) b) size ∙ row-renumbered h (held-cells h e)

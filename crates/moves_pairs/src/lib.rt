@@ -48,17 +48,3 @@ pub fn pairs(kinds: &[u32; KINDS], segments: usize, count: usize, room: &mut [u3
         pair += 1;
     }
 }
-
-// How many numbers are of the kind.
-pub fn how_many(kinds: &[u32; KINDS], kind: u32, segments: usize) -> usize
-    requires { ⌜ segments ≤ mostSegments ⌝ }
-    ensures { λ r. ⌜ r ≡ countBelow segments (isKind (now (kinds .entry)) kind) ⌝ }
-{
-    let mut count: usize = 0;
-    let mut number: usize = 0;
-    while number < segments {
-        count += (kinds[number] == kind) as usize;
-        number += 1;
-    }
-    count
-}

@@ -1,9 +1,9 @@
 -- A tidying, beside the model's: users know the same afterwards, and whether something is open they know. Assumes nothing.
 use Prim.Native.Nat.{ℕ}
-use mathlib.Core.Path.{_≡_, refl, sym, ap, _∙_}
+use mathlib.Core.Path.{_≡_, refl}
 use mathlib.Core.Bool.{Bool, true, false}
 use mathlib.Core.Option.{none}
-use Rattle.combine.specs.Verdict.{Said, done, refuse_when_else_}
+use Rattle.combine.specs.Verdict.{done, refuse_when_else_}
 use Rattle.combine.specs.Outcome.{settle}
 use Rattle.placing.specs.Sizes.{Cells}
 use Rattle.rules.specs.Calls.{tidy, arranges}

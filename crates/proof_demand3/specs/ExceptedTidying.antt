@@ -14,11 +14,10 @@ use Rattle.names.specs.Names.{nameOf}
 use Rattle.placing.specs.Sizes.{segmentCells, entries}
 use Rattle.rules.specs.Calls.{new, write, rename, opens, closes, uses, Call, on}
 use Rattle.rules.specs.Headings.{filing}
-use Rattle.rules.specs.House.{house, hasOpen, freshHouse}
+use Rattle.rules.specs.House.{house, freshHouse}
 use Rattle.segments.specs.Free.{SegmentHouse}
 use Rattle.segments.specs.Moves.{isListed, listedCount, tidyCount}
 use Rattle.segments.specs.State.{State}
-use Rattle.cells.specs.Says.{houseOf}
 use Rattle.model.specs.Model.{Model}
 use Rattle.model.specs.Step.{step}
 use Rattle.proof_calls_sound.specs.Keeps.{sound-final}

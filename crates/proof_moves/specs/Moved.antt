@@ -1,7 +1,6 @@
 -- Segments change numbers by an exchange and their cells go along: soundness stays, and users know the same, whatever is open. Assumes nothing.
-use Prim.Native.Nat.{ℕ, zero, suc, _+_, _≤_, _<_}
+use Prim.Native.Nat.{ℕ, suc, _≤_, _<_}
 use native.Mathlib.Omega.{arith}
-use native.Mathlib.Nat.{le-of-suc-le-suc, not-suc-le-zero}
 use mathlib.Core.Path.{_≡_, refl, sym, ap, ap₂, _∙_, subst}
 use mathlib.Core.Bool.{Bool, true, false, not, _||_}
 use mathlib.Core.Option.{Option, none, some}
@@ -9,15 +8,15 @@ use mathlib.Core.List.{List, [], _∷_, map}
 use lib.Dec.{T, T-not, not-T}
 use lib.ListN.{length, getD, length-map, List·getD-map}
 use Rattle.combine.specs.Lists.{any, isIn}
-use Rattle.placing.specs.Sizes.{userOf, segmentCells}
-use Rattle.rules.specs.Headings.{Handle, Heading, headOf, handleOf, filing, opening, value, passes}
+use Rattle.placing.specs.Sizes.{userOf}
+use Rattle.rules.specs.Headings.{headOf, handleOf, filing, opening, value, passes}
 use Rattle.rules.specs.Rules.{isOwn, isPublic}
 use Rattle.rules.specs.House.{house}
 use Rattle.segments.specs.Free.{SegmentRecord, SegmentOpening, SegmentHouse, recordSegments, openingSegments, placeSegments, isFree}
 use Rattle.segments.specs.Moves.{renumberedRecord}
-use Rattle.segments.specs.laws.Sound.{SoundFile, SoundFiled, SoundPlace, OneStretch, Tied, Placed, SoundOpen, SoundEntry, Single, Alone, SoundHouse}
-use Rattle.model.specs.Model.{File, Body, body}
-use Rattle.model.specs.View.{viewPlace, viewOpening, viewEntry, viewHouse}
+use Rattle.segments.specs.laws.Sound.{SoundFile, SoundPlace, Tied, Placed, SoundEntry, Single, Alone, SoundHouse}
+use Rattle.model.specs.Model.{body}
+use Rattle.model.specs.View.{viewPlace, viewEntry, viewHouse}
 use Rattle.combine.specs.laws.Tests.{or-first, or-second}
 use Rattle.combine.specs.laws.Sums.{any-at}
 use Rattle.proof_moves.specs.Moves.{Exchange, Carries}

@@ -1,12 +1,11 @@
 -- Document 02, P13, of any cells: numbers, files, segments left behind, and how few cells are copied. Assumes nothing.
 use Prim.Native.Nat.{ℕ, _≤_}
-use mathlib.Core.Path.{_≡_, sym, ap, _∙_, subst}
+use mathlib.Core.Path.{_≡_, sym, _∙_, subst}
 use mathlib.Core.Bool.{true, false, not, _&&_}
 use mathlib.Core.List.{List}
 use lib.Dec.{T, ltb, T-not, not-T}
 use Rattle.combine.specs.Lists.{isIn}
 use Rattle.combine.specs.Verdict.{Said, done, isDone}
-use Rattle.combine.specs.Outcome.{Outcome}
 use Rattle.combine.specs.laws.Pairs.{tos}
 use Rattle.combine.specs.laws.Picked.{picked-passes}
 use Rattle.combine.specs.laws.Tests.{and-first, and-second, and-intro}
@@ -14,7 +13,7 @@ use Rattle.rules.specs.House.{hasOpen}
 use Rattle.segments.specs.Free.{SegmentHouse, isFree}
 use Rattle.segments.specs.Moves.{listedCount, tidyMoves, tidyCount}
 use Rattle.cells.specs.Says.{houseOf}
-use Rattle.cells.specs.Outcomes.{Lent, soundLent, tidyOut}
+use Rattle.cells.specs.Outcomes.{Lent, soundLent}
 use Rattle.demands.specs.History.{outcomeOn}
 use Rattle.demands.specs.Tidying.{tidying, copiedBy, TidyNumbers, TidyKeeps, TidyLeaves, TidyCopies, TidyLeast}
 use Rattle.proof_moves.specs.Moves.{isVacant}

@@ -6,9 +6,9 @@ use mathlib.Core.Path.{_≡_, refl, sym, ap, _∙_, subst}
 use mathlib.Core.Logic.{_⊎_, ⊎-elim}
 use mathlib.Core.Bool.{false, not}
 use mathlib.Core.Option.{Option, none, some}
-use mathlib.Core.List.{List, [], _∷_, map}
+use mathlib.Core.List.{List, _∷_, map}
 use lib.Dec.{T}
-use lib.ListN.{length, getD, length-map}
+use lib.ListN.{length, length-map}
 use Rattle.combine.specs.Lists.{tab}
 use Rattle.combine.specs.laws.Lists.{tab-cong}
 use Rattle.combine.specs.laws.Sums.{not-any}
@@ -25,7 +25,7 @@ use Rattle.tables.specs.laws.Again.{ShapedRecord}
 use Rattle.tables.specs.laws.Put.{length-put-record, record-put, record-other, opening-kept, segments-kept}
 use Rattle.cells.specs.Says.{decodedRecord, decodedOpening, houseOf, asRecord, asOpening}
 use Rattle.cells.specs.Moved.{renumberedAt, renumberedFirst}
-use Rattle.cells.specs.laws.Written.{FitsRecord, FitsPlace, shaped-place, said-place}
+use Rattle.cells.specs.laws.Written.{FitsPlace, shaped-place, said-place}
 use Rattle.proof_cells_agree.specs.There.{opening-at}
 use Rattle.proof_cells_agree.specs.Canonical.{Canonical}
 use Rattle.proof_moves.specs.Renumbered.{renumberedOpening, renumbered}

@@ -10,7 +10,6 @@ use borrow.Author.Tests.{lt-ltb, le-ltb, le-leb, lt-leb, eq-eqb, ne-eqb}
 use lib.Dec.{eqb, ltb, leb}
 use lib.ListN.{length, getD, set, length-set}
 use lib.Seq.{getD-set-same, getD-set-other}
-use Rattle.moves_pairs.specs.Kinds.{toMove, canTake}
 use Rattle.tidy_plan.specs.Kinds.{kindOf}
 
 -- ---- kinds

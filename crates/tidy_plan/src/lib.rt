@@ -54,8 +54,12 @@ pub fn plan(tables: &[u32], room: &mut [u32]) -> usize
     free_count::mark_lists(tables, &mut marks);
     let segments = tables[0];
     let low = segments - free_count::unmarked(&marks, segments);
+    // As many are to move as are free below H.
+    let count = free_count::unmarked(&marks, low) as usize;
+    if count == 0 {
+        return 0;
+    }
     sort(&mut marks, segments as usize, low as usize);
-    let count = moves_pairs::how_many(&marks, TO_MOVE, segments as usize);
     moves_pairs::pairs(&marks, segments as usize, count, room);
     count
 }

@@ -1,7 +1,7 @@
 -- `call_tidy::nothing_open` meets its contract: no entry below `entry` is open. Assumes nothing.
-use Prim.Native.Nat.{ℕ, _+_, _-_, _*_, _≤_, _<_}
+use Prim.Native.Nat.{_-_, _≤_}
 use native.Mathlib.Omega.{arith}
-use mathlib.Core.Path.{_≡_, refl, sym, ap, _∙_}
+use mathlib.Core.Path.{_≡_, ap, _∙_}
 use denote.Ref.{now}
 use mathlib.Core.Bool.{not, true}
 use borrow.Author.Tests.{eq-eqb, ne-eqb}

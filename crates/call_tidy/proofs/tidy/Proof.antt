@@ -1,6 +1,4 @@
 -- `call_tidy::tidy` meets its contract. Assumes nothing.
-use Prim.Native.Nat.{ℕ, _≤_, _*_}
-use native.Mathlib.Omega.{arith}
 use mathlib.Core.Path.{_≡_, refl}
 use mathlib.Core.Bool.{true, false}
 use denote.Ref.{now}
@@ -10,7 +8,7 @@ use Rattle.cells.specs.Says.{houseOf}
 use Rattle.cells.specs.Outcomes.{soundLent}
 use Rattle.rules.specs.House.{hasOpen}
 use Rattle.proof_moves.specs.Outcome.{tidy-unsound, tidy-busy}
-use Rattle.call_tidy.proofs.Laws.{tests, lent-moves, moves-low, carried-out}
+use Rattle.call_tidy.proofs.Laws.{tests, lent-moves, moves-low, carried-out, none-carried}
 use borrow.Author.Needs.{needs}
 use Rattle.call_tidy.proofs.tidy.Statement.{statement}
 use Rattle.call_tidy.proofs.tidy.Tie as tie
@@ -60,6 +58,19 @@ plan-requires c κs =
     let ok : soundLent st t ≡ true = search tests in
     (ranged-of (length st) t ok, refl)
 
+same-length-3 : tie.Need-same-length-3
+same-length-3 c = search needs
+
+returns-3 : tie.Need-returns-3
+returns-3 c =
+    let s = c .before .before .before .before .before .before .before .before .before .before .before .before .before in
+    let st = now (s .args .store) in
+    let t = now (s .args .tables) in
+    let ok : soundLent st t ≡ true = search tests in
+    let still : hasOpen (houseOf t) ≡ false = search tests in
+    let p = c .before .before .plan in
+    none-carried st t (p .last .1 .0) (p .result) (c .if3 .taken) ok still (p .ensures .1 .0) (p .ensures .1 .1)
+
 mul-carry : tie.Need-mul-carry
 mul-carry c = search needs
 
@@ -74,11 +85,11 @@ part-carry-end c = search needs
 
 carry-requires : tie.Need-carry-requires
 carry-requires c κs =
-    let s = c .before .before .before .before .before .before .before .before .before .before .before .before .before .before .before .before in
+    let s = c .before .before .before .before .before .before .before .before .before .before .before .before .before .before .before .before .before in
     let st = now (s .args .store) in
     let t = now (s .args .tables) in
     let ok : soundLent st t ≡ true = search tests in
-    let p = c .before .before .before .before .before .plan in
+    let p = c .before .before .before .before .before .before .plan in
     (ranged-of (length st) t ok, fits-store (length st) t ok, moves-low t _ (lent-moves t (p .last .1 .0) (p .result) (p .ensures .1 .1)))
 
 mul-cells : tie.Need-mul-cells
@@ -87,20 +98,20 @@ mul-cells c = search needs
 cast-cells : tie.Need-cast-cells
 cast-cells c = search needs
 
-same-length-3 : tie.Need-same-length-3
-same-length-3 c = search needs
-
 same-length-4 : tie.Need-same-length-4
 same-length-4 c = search needs
 
-returns-3 : tie.Need-returns-3
-returns-3 c =
-    let s = c .before .before .before .before .before .before .before .before .before .before .before .before .before .before .before .before .before .before .before .before .before in
+same-length-5 : tie.Need-same-length-5
+same-length-5 c = search needs
+
+returns-4 : tie.Need-returns-4
+returns-4 c =
+    let s = c .before .before .before .before .before .before .before .before .before .before .before .before .before .before .before .before .before .before .before .before .before .before in
     let st = now (s .args .store) in
     let t = now (s .args .tables) in
     let ok : soundLent st t ≡ true = search tests in
     let still : hasOpen (houseOf t) ≡ false = search tests in
-    let p = c .before .before .before .before .before .before .before .before .before .before .plan in
+    let p = c .before .before .before .before .before .before .before .before .before .before .before .plan in
     let d = c .before .before .before .before .carry in
     carried-out st t _ (d .last .0) (d .last .1 .0) (p .result) ok still (p .ensures .1 .0) (lent-moves t (p .last .1 .0) (p .result) (p .ensures .1 .1)) (d .ensures .0) (d .ensures .1)
 
@@ -116,6 +127,8 @@ tidy-spec =
     returns-2
     slice-aggregate-plan
     plan-requires
+    same-length-3
+    returns-3
     mul-carry
     sub-carry
     part-carry-start
@@ -123,6 +136,6 @@ tidy-spec =
     carry-requires
     mul-cells
     cast-cells
-    same-length-3
     same-length-4
-    returns-3)
+    same-length-5
+    returns-4)

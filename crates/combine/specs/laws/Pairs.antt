@@ -97,3 +97,10 @@ pub length-paired : (xs ys : List ℕ) → length xs ≤ length ys → length (p
 length-paired [] ys h = refl
 length-paired (x ∷ xs) [] h = absurd (not-suc-le-zero h)
 length-paired (x ∷ xs) (y ∷ ys) h = let e = length-paired xs ys (le-of-suc-le-suc h) in omega arith
+
+-- a pair that is there has a number of each list
+pub paired-within : (xs ys : List ℕ) (k : ℕ) → 2 * k + 1 < length (paired xs ys) → (k < length xs) × (k < length ys)
+paired-within [] ys k h = absurd (not-suc-le-zero h)
+paired-within (x ∷ xs) [] k h = absurd (not-suc-le-zero h)
+paired-within (x ∷ xs) (y ∷ ys) zero h = (omega arith, omega arith)
+paired-within (x ∷ xs) (y ∷ ys) (suc k) h = let w = paired-within xs ys k (omega arith) in (omega (arith, w .0), omega (arith, w .1))

@@ -12,6 +12,7 @@ use lib.ListN.{length, getD, length-append, List·getD-append}
 use lib.Seq.{getD-at}
 use Rattle.combine.specs.Lists.{isIn}
 use Rattle.combine.specs.Below.{countBelow, picked}
+use Rattle.combine.specs.laws.Numbers.{le-or-lt}
 use Rattle.combine.specs.laws.Tests.{true-of, and-first, and-second, and-intro, or-split, or-first, or-second, nor-first, nor-second, eqb-eq}
 use Rattle.combine.specs.laws.Counts.{count-less}
 use Rattle.combine.specs.laws.Pairs.{noneTwice}
@@ -65,6 +66,40 @@ picked-at (suc n) f g l t = ⊎-elim
     go : (b : Bool) → g < n → getD (picked n f) (countBelow g f) 0 ≡ g → getD (cond b (picked n f ++ (n ∷ [])) (picked n f)) (countBelow g f) 0 ≡ g
     go true m ih = List·getD-append (picked n f) (n ∷ []) 0 (countBelow g f) (let c = count-less g n f m t in let e = length-picked n f in omega arith) ∙ ih
     go false m ih = ih
+
+-- each is above those before it
+pub picked-low : (n : ℕ) (f : ℕ → Bool) (j : ℕ) → j < length (picked n f) → getD (picked n f) j 0 < n
+unfolding picked
+picked-low zero f j l = absurd (not-suc-le-zero l)
+picked-low (suc n) f j l = go (f n) (picked-low n f j) l
+  where
+    go : (b : Bool) → (j < length (picked n f) → getD (picked n f) j 0 < n) → j < length (cond b (picked n f ++ (n ∷ [])) (picked n f))
+        → getD (cond b (picked n f ++ (n ∷ [])) (picked n f)) j 0 < suc n
+    go true ih l = ⊎-elim
+        (λ (m : length (picked n f) ≤ j).
+        let e : length (picked n f) ≡ j = omega (arith, length-append (picked n f) (n ∷ [])) in
+        omega (arith, getD-at (picked n f) n [] 0 j e))
+        (λ (m : j < length (picked n f)). omega (arith, List·getD-append (picked n f) (n ∷ []) 0 j m, ih m))
+        (le-or-lt (length (picked n f)) j)
+    go false ih l = omega (arith, ih l)
+
+pub picked-rises : (n : ℕ) (f : ℕ → Bool) (j k : ℕ) → j < k → k < length (picked n f) → getD (picked n f) j 0 < getD (picked n f) k 0
+unfolding picked
+picked-rises zero f j k h l = absurd (not-suc-le-zero l)
+picked-rises (suc n) f j k h l = go (f n) (picked-rises n f j k h) l
+  where
+    go : (b : Bool) → (k < length (picked n f) → getD (picked n f) j 0 < getD (picked n f) k 0) → k < length (cond b (picked n f ++ (n ∷ [])) (picked n f))
+        → getD (cond b (picked n f ++ (n ∷ [])) (picked n f)) j 0 < getD (cond b (picked n f ++ (n ∷ [])) (picked n f)) k 0
+    go true ih l = ⊎-elim
+        (λ (m : length (picked n f) ≤ k).
+        let e : length (picked n f) ≡ k = omega (arith, length-append (picked n f) (n ∷ [])) in
+        let lj : j < length (picked n f) = omega arith in
+        omega (arith, getD-at (picked n f) n [] 0 k e, List·getD-append (picked n f) (n ∷ []) 0 j lj, picked-low n f j lj))
+        (λ (m : k < length (picked n f)).
+        let lj : j < length (picked n f) = omega arith in
+        omega (arith, List·getD-append (picked n f) (n ∷ []) 0 j lj, List·getD-append (picked n f) (n ∷ []) 0 k m, ih m))
+        (le-or-lt (length (picked n f)) k)
+    go false ih l = ih l
 
 none-end : (x : ℕ) (l : List ℕ) → T (noneTwice l) → T (not (isIn x l)) → T (noneTwice (l ++ (x ∷ [])))
 none-end x [] o n = tt

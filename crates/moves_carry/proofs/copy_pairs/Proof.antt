@@ -1,9 +1,9 @@
 -- `moves_carry::copy_pairs` meets its contract: what is to come of the plan makes of the store what the plan does. Assumes nothing.
-use Prim.Native.Nat.{ℕ, _+_, _-_, _*_, _≤_, _<_}
+use Prim.Native.Nat.{ℕ, _+_, _-_, _*_, _≤_}
 use native.Mathlib.Omega.{arith}
 use mathlib.Core.Path.{_≡_, refl, sym, ap, _∙_}
 use denote.Ref.{now}
-use lib.ListN.{length, getD, drop, length-set}
+use lib.ListN.{length, drop}
 use mathlib.Core.List.{List}
 use Rattle.placing.specs.Sizes.{segmentCells}
 use Rattle.store.specs.Store.{copied}

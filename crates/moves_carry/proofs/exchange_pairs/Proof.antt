@@ -1,7 +1,7 @@
 -- `moves_carry::exchange_pairs` meets its contract: the numbers are exchanged by the pairs that were read. Assumes nothing.
 use Prim.Native.Nat.{ℕ, _+_, _-_, _*_, _/_, _≤_, _<_}
 use native.Mathlib.Omega.{arith}
-use mathlib.Core.Path.{_≡_, refl, sym, ap, _∙_}
+use mathlib.Core.Path.{_≡_, sym, ap, _∙_}
 use denote.Ref.{now}
 use lib.ListN.{length, getD, drop, length-set}
 use Rattle.segments.specs.Moves.{exchange}

@@ -1,10 +1,9 @@
 -- `moves_carry::identity` meets its contract. Assumes nothing.
-use Prim.Native.Nat.{ℕ, _+_, _-_, _*_, _≤_, _<_}
+use Prim.Native.Nat.{_-_, _≤_}
 use native.Mathlib.Omega.{arith}
-use mathlib.Core.Path.{_≡_, refl, sym, ap, _∙_}
+use mathlib.Core.Path.{_≡_}
 use native.Mathlib.Nat.{not-suc-le-zero}
-use denote.Ref.{now}
-use lib.ListN.{length, getD, length-set}
+use lib.ListN.{length, length-set}
 use Rattle.moves_carry.proofs.Turns.{Itself, itself-turn}
 use borrow.Author.Needs.{needs}
 use Rattle.moves_carry.proofs.identity.Statement.{statement}

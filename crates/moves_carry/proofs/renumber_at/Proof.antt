@@ -1,13 +1,10 @@
 -- `moves_carry::renumber_at` meets its contract. Assumes nothing.
-use Prim.Native.Nat.{ℕ, _+_, _-_, _*_, _≤_, _<_}
+use Prim.Native.Nat.{_-_}
 use native.Mathlib.Omega.{arith}
-use mathlib.Core.Path.{_≡_, refl, sym, ap, _∙_}
 use denote.Ref.{now}
-use lib.ListN.{length, getD}
-use Rattle.tables.specs.Layout.{recordBase, recordAt, segmentsIn}
-use Rattle.tables.specs.Fields.{heldByRecord}
+use Rattle.tables.specs.Layout.{segmentsIn}
 use Rattle.moves_carry.specs.Numbers.{mapped}
-use Rattle.moves_carry.proofs.Row.{row-fits, lent-low, lent-renumbered, extent-cells, held-cells}
+use Rattle.moves_carry.proofs.Row.{lent-few, lent-low, lent-renumbered, extent-cells}
 use borrow.Author.Needs.{needs}
 use Rattle.moves_carry.proofs.renumber_at.Statement.{statement}
 use Rattle.moves_carry.proofs.renumber_at.Tie as tie
@@ -64,10 +61,7 @@ add-beyond : tie.Need-add-beyond
 add-beyond c =
     let s = c .before .before .before .before .before .before in
     let t = now (s .args .tables) in
-    let h = c .held-by .result in
-    let f = mapped (now (s .args .numbers)) in
-    let held = held-cells f t (s .pre .0) (s .args .place) (s .pre .1) (segmentsIn t) (s .pre .3) h (c .held-by .ensures) in
-    let few : h ≤ 32 = row-fits f t (s .pre .0) (s .args .place) (s .pre .1) (segmentsIn t) (s .pre .3) h held in
+    let few = lent-few (mapped (now (s .args .numbers))) t (s .pre .0) (s .args .place) (s .pre .1) (segmentsIn t) (s .pre .3) (c .held-by .result) (c .held-by .ensures) in
     omega (arith, s .pre .1)
 
 mul-renumber-row : tie.Need-mul-renumber-row
@@ -83,22 +77,15 @@ part-renumber-row-end : tie.Need-part-renumber-row-end
 part-renumber-row-end c =
     let s = c .before .before .before .before .before .before in
     let t = now (s .args .tables) in
-    let h = c .held-by .result in
-    let f = mapped (now (s .args .numbers)) in
-    let held = held-cells f t (s .pre .0) (s .args .place) (s .pre .1) (segmentsIn t) (s .pre .3) h (c .held-by .ensures) in
-    let few : h ≤ 32 = row-fits f t (s .pre .0) (s .args .place) (s .pre .1) (segmentsIn t) (s .pre .3) h held in
-    let r : 1 + 50 * s .args .place + 18 + h ≤ length t = omega (arith, s .pre .0, s .pre .1) in
-    r
+    let few = lent-few (mapped (now (s .args .numbers))) t (s .pre .0) (s .args .place) (s .pre .1) (segmentsIn t) (s .pre .3) (c .held-by .result) (c .held-by .ensures) in
+    omega (arith, s .pre .0, s .pre .1)
 
 renumber-row-requires : tie.Need-renumber-row-requires
 renumber-row-requires c κs =
     let s = c .before .before .before .before .before .before .before in
     let t = now (s .args .tables) in
-    let h = c .before .held-by .result in
-    let f = mapped (now (s .args .numbers)) in
-    let held = held-cells f t (s .pre .0) (s .args .place) (s .pre .1) (segmentsIn t) (s .pre .3) h (c .before .held-by .ensures) in
-    let few : h ≤ 32 = row-fits f t (s .pre .0) (s .args .place) (s .pre .1) (segmentsIn t) (s .pre .3) h held in
-    lent-low f t (s .pre .0) (s .args .place) (s .pre .1) (segmentsIn t) (s .pre .3) (s .pre .2) h held
+    let held = c .before .held-by in
+    lent-low (mapped (now (s .args .numbers))) t (s .pre .0) (s .args .place) (s .pre .1) (segmentsIn t) (s .pre .3) (s .pre .2) (held .result) (held .ensures)
 
 same-length : tie.Need-same-length
 same-length c = search needs
@@ -107,11 +94,8 @@ returns : tie.Need-returns
 returns c =
     let s = c .before .before .before .before .before .before .before .before .before .before in
     let t = now (s .args .tables) in
-    let h = c .before .before .before .before .held-by .result in
-    let f = mapped (now (s .args .numbers)) in
-    let held = held-cells f t (s .pre .0) (s .args .place) (s .pre .1) (segmentsIn t) (s .pre .3) h (c .before .before .before .before .held-by .ensures) in
-    let few : h ≤ 32 = row-fits f t (s .pre .0) (s .args .place) (s .pre .1) (segmentsIn t) (s .pre .3) h held in
-    lent-renumbered f t (s .pre .0) (s .args .place) (s .pre .1) (segmentsIn t) (s .pre .3) h held (c .before .before .renumber-row .last .0) (c .before .before .renumber-row .ensures)
+    let held = c .before .before .before .before .held-by in
+    lent-renumbered (mapped (now (s .args .numbers))) t (s .pre .0) (s .args .place) (s .pre .1) (segmentsIn t) (s .pre .3) (held .result) (held .ensures) (c .before .before .renumber-row .last .0) (c .before .before .renumber-row .ensures)
 
 pub renumber-at-spec : {M : Type 1} → statement M
 renumber-at-spec =

@@ -1,10 +1,10 @@
 -- `moves_carry::renumber_records` meets its contract. Assumes nothing.
-use Prim.Native.Nat.{ℕ, _+_, _-_, _*_, _≤_, _<_}
+use Prim.Native.Nat.{ℕ, _-_, _≤_, _<_}
 use native.Mathlib.Omega.{arith}
-use mathlib.Core.Path.{_≡_, refl, sym, ap, _∙_}
+use mathlib.Core.Path.{_≡_, sym, ap, _∙_}
 use denote.Ref.{now}
 use lib.ListN.{length}
-use Rattle.placing.specs.Sizes.{places, tablesLength}
+use Rattle.placing.specs.Sizes.{places}
 use Rattle.moves_carry.specs.Numbers.{mapped}
 use Rattle.cells.specs.Moved.{renumberedAt, renumberedFirst}
 use Rattle.moves_carry.proofs.Records.{first-start, first-turn, first-facts, next-ok}

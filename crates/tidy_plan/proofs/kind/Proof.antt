@@ -1,6 +1,5 @@
 -- `tidy_plan::kind` meets its contract. Assumes nothing.
 use Rattle.tidy_plan.proofs.Sorting.{kinds}
-use borrow.Author.Needs.{needs}
 use Rattle.tidy_plan.proofs.kind.Statement.{statement}
 use Rattle.tidy_plan.proofs.kind.Tie as tie
 

@@ -1,9 +1,7 @@
 -- `tidy_plan::sort` meets its contract. Assumes nothing.
-use Prim.Native.Nat.{ℕ, _+_, _-_, _*_, _≤_, _<_}
+use Prim.Native.Nat.{_-_, _≤_}
 use native.Mathlib.Omega.{arith}
-use mathlib.Core.Path.{_≡_, refl, sym, ap, _∙_}
 use denote.Ref.{now}
-use lib.ListN.{length, getD}
 use Rattle.tidy_plan.proofs.Sorting.{Sorted, sort-start, sort-turn}
 use borrow.Author.Needs.{needs}
 use Rattle.tidy_plan.proofs.sort.Statement.{statement}
