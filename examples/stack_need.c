@@ -30,6 +30,7 @@ static uint64_t claim(void) { return dorrivand_claim(LENT, USER, ENTRY); }
 static uint64_t close_public(void) { return dorrivand_public(LENT, USER, ENTRY); }
 static uint64_t save(void) { return dorrivand_save(LENT, image, dorrivand_image_length()); }
 static uint64_t load(void) { return dorrivand_load(LENT, image, dorrivand_image_length()); }
+static uint64_t tidy(void) { return dorrivand_tidy(LENT); }
 static uint64_t open_work(void) { return dorrivand_work(LENT, USER, ENTRY, NAMED); }
 static uint64_t take_first(void) { return dorrivand_next(LENT, USER, ENTRY, DORRIVAND_BEGIN); }
 static uint64_t take_last(void) { return dorrivand_prev(LENT, USER, ENTRY, DORRIVAND_END); }
@@ -59,7 +60,8 @@ struct call {
     uint64_t (*made)(void);
 };
 
-/* A history in which each of them is done. */
+/* A history in which each of them is done. At its end the file has been changed and closed, so that it lies above the segment
+ * that it had, and the tidying has something to move. */
 static struct call calls[] = {
     {"fresh start", fresh},
     {"new", open_new},
@@ -82,6 +84,10 @@ static struct call calls[] = {
     {"fill a run", take_run},
     {"free segments", free_segments},
     {"abandon", abandon},
+    {"work", open_work},
+    {"append", append},
+    {"close public", close_public},
+    {"tidy", tidy},
 };
 
 static uint64_t answer;

@@ -55,7 +55,7 @@ enum dorrivand_species {
 };
 
 /* The version that this header belongs to: it grows by 1 with each change that a caller can notice. */
-#define DORRIVAND_VERSION 4
+#define DORRIVAND_VERSION 5
 
 /* The version of the library that is linked. */
 uint32_t dorrivand_version(void);
@@ -70,7 +70,7 @@ size_t dorrivand_image_length(void);
  * it is the scratch name. */
 size_t dorrivand_name_of(const uint8_t *name, size_t name_length, uint32_t *symbols, size_t symbols_length);
 
-/* ---- The operator's calls: they name no user, and none of them changes a store cell. ---- */
+/* ---- The operator's calls: they name no user, and none of them but tidying changes a store cell. ---- */
 
 /* Fresh start: no files, nothing open, and floor(store_length / 64) segments, at most 1,024. What the tables held is not
  * looked at.
@@ -89,6 +89,14 @@ uint64_t dorrivand_save(const uint32_t *store, size_t store_length, const uint32
  * Refusals: 20 (the lengths alone); 22. */
 uint64_t dorrivand_load(const uint32_t *store, size_t store_length, uint32_t *tables, size_t tables_length,
                         const uint32_t *image, size_t image_length);
+
+/* Tidy: H being how many segments the records list, the listed ones numbered H or above, in rising order, go to the free
+ * ones below H, in rising order; no other moves. Their 64 cells are copied, segments left behind keep theirs, and every file
+ * reads the same. The store's cells beyond the first 64 * H hold no file then. The answer is the number of cells copied.
+ * An image saved before names the old segments: over these cells it is good only until one that was left behind is written
+ * to again. So save after tidying, and keep image and store of one moment together.
+ * Refusals: 20; 14 if anything at all is open, a reader or an empty new file too. */
+uint64_t dorrivand_tidy(uint32_t *store, size_t store_length, uint32_t *tables, size_t tables_length);
 
 /* ---- Free segments ---- */
 
@@ -159,9 +167,9 @@ uint64_t dorrivand_delete(const uint32_t *store, size_t store_length, uint32_t *
 
 /* ---- Access: v is the value of the pointer, b the begin, e the end ---- */
 
-/* Write: it and its run are all that writes to the store. Through 1: append, e grows by 1. Through 0: the first element is
- * dropped, no segment is taken and no store cell changes. Else position v is replaced. v grows by 1. A number too wide for the
- * species loses its top bits.
+/* Write: it, its run and tidying are all that writes to the store. Through 1: append, e grows by 1. Through 0: the first
+ * element is dropped, no segment is taken and no store cell changes. Else position v is replaced. v grows by 1. A number too
+ * wide for the species loses its top bits.
  * Refusals: 20; 1; 2; 4; 5; 6 where v < b; 7 where v >= e, but not through 1; 10; 8; 9. */
 uint64_t dorrivand_write(uint32_t *store, size_t store_length, uint32_t *tables, size_t tables_length,
                          uint32_t user, uint32_t entry, uint32_t pointer, uint32_t number);

@@ -56,6 +56,7 @@ door! {
     fresh = dorrivand_fresh(store: &[u32], tables: &mut [u32]) -> u64;
     save = dorrivand_save(store: &[u32], tables: &[u32], image: &mut [u32]) -> u64;
     load = dorrivand_load(store: &[u32], tables: &mut [u32], image: &[u32]) -> u64;
+    tidy = dorrivand_tidy(store: &mut [u32], tables: &mut [u32]) -> u64;
     free = dorrivand_free(store: &[u32], tables: &[u32], user: u32) -> u64;
     new = dorrivand_new(store: &[u32], tables: &mut [u32], user: u32, entry: u32, species: u32) -> u64;
     work = dorrivand_work(store: &[u32], tables: &mut [u32], user: u32, entry: u32, name: &[u8]) -> u64;

@@ -82,7 +82,8 @@
 //! # Keeping a store
 //!
 //! The module keeps nothing anywhere but in the cells that it is lent. docs/OPERATING.md says what to write to disk, and
-//! `examples/backup.rs` does it.
+//! `examples/backup.rs` does it. [`Store::tidy`] brings the files' segments together at the begin of the cells; after it a
+//! store is saved again.
 
 #![deny(missing_docs)]
 #![deny(unsafe_code)]

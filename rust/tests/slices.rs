@@ -52,6 +52,7 @@ fn tables_of_another_length() {
         let mut store = Store::from_cells(vec![0; 640], vec![0; length]);
         assert_eq!(store.fresh_start(), Err(Refusal::UnsoundTables));
         assert_eq!(store.load(&[]), Err(Refusal::UnsoundTables));
+        assert_eq!(store.tidy(), Err(Refusal::UnsoundTables));
         assert_eq!(store.free_segments(0), Err(Refusal::UnsoundTables));
     }
 }
@@ -62,6 +63,7 @@ fn nothing_lent_at_all() {
     assert_eq!(store.fresh_start(), Err(Refusal::UnsoundTables));
     assert_eq!(store.open_work(0, 0, ""), Err(Refusal::UnsoundTables));
     assert_eq!(store.save(&mut []), Err(Refusal::UnsoundTables));
+    assert_eq!(store.tidy(), Err(Refusal::UnsoundTables));
     assert_eq!(store.write_run(0, 0, 0, &[]), (&[][..], Some(Refusal::UnsoundTables)));
     assert_eq!(store.fill_run(0, 0, 0, &mut []), (0, Some(Refusal::UnsoundTables)));
 }

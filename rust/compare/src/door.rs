@@ -133,6 +133,7 @@ fn perform_single(
         "fresh" => nothing(store.fresh_start()),
         "save" => nothing(store.save(image)),
         "load" => nothing(store.load(image)),
+        "tidy" => store.tidy(),
         "free" => store.free_segments(user),
         "new" => nothing(store.open_new(user, entry, third)),
         "work" => nothing(store.open_work(user, entry, name)),

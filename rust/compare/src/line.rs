@@ -1,10 +1,10 @@
 //! A line of a history, taken apart. The forms are those of `second/`'s text: "work U E NAME", "writes U E P L", ..
 
 /// The calls, by the first word of their lines.
-pub const CALLS: [&str; 26] = [
-    "fresh", "save", "load", "free", "new", "work", "read", "rename", "close", "public", "abandon", "reset", "pointer",
-    "delete", "write", "next", "prev", "writes", "nexts", "species", "claim", "permit", "symbol", "begin", "end",
-    "value",
+pub const CALLS: [&str; 27] = [
+    "fresh", "save", "load", "tidy", "free", "new", "work", "read", "rename", "close", "public", "abandon", "reset",
+    "pointer", "delete", "write", "next", "prev", "writes", "nexts", "species", "claim", "permit", "symbol", "begin",
+    "end", "value",
 ];
 
 #[derive(Clone, Copy, PartialEq, Eq, Debug)]
@@ -99,10 +99,11 @@ mod tests {
     #[test]
     fn calls_and_changes() {
         assert_eq!(Line::read(b"fresh"), Some(Line::Call(0, [0; 4], b"")));
-        assert_eq!(Line::read(b"write 1 2 3 4294967295"), Some(Line::Call(14, [1, 2, 3, u32::MAX], b"")));
-        assert_eq!(Line::read(b"nexts 1 2 3 1"), Some(Line::Call(18, [1, 2, 3, 1], b"")));
-        assert_eq!(Line::read(b"work 1 2 a \n b"), Some(Line::Call(5, [1, 2, 0, 0], b"a \n b")));
-        assert_eq!(Line::read(b"rename 1 2"), Some(Line::Call(7, [1, 2, 0, 0], b"")));
+        assert_eq!(Line::read(b"tidy"), Some(Line::Call(3, [0; 4], b"")));
+        assert_eq!(Line::read(b"write 1 2 3 4294967295"), Some(Line::Call(15, [1, 2, 3, u32::MAX], b"")));
+        assert_eq!(Line::read(b"nexts 1 2 3 1"), Some(Line::Call(19, [1, 2, 3, 1], b"")));
+        assert_eq!(Line::read(b"work 1 2 a \n b"), Some(Line::Call(6, [1, 2, 0, 0], b"a \n b")));
+        assert_eq!(Line::read(b"rename 1 2"), Some(Line::Call(8, [1, 2, 0, 0], b"")));
         assert_eq!(Line::read(b"lend tables 4993"), Some(Line::Lend(Buffers::Tables, 4993)));
         assert_eq!(Line::read(b"poke image3 5 6"), Some(Line::Poke(Buffers::Image(3), 5, 6)));
         assert_eq!(Line::read(b"poke list1 5 6"), Some(Line::Poke(Buffers::List(1), 5, 6)));

@@ -42,6 +42,11 @@ impl Reply {
         }
     }
 
+    /// Whether a single call is done with a number above 0.
+    pub fn is_done_with_some(&self) -> bool {
+        matches!(self, Reply::Single(Ok(1..)))
+    }
+
     /// Whether a run was stopped after some of its elements.
     pub fn stopped_midway(&self) -> bool {
         self.refusal().is_some() && self.elements().is_some_and(|(done, _)| done > 0)

@@ -5,11 +5,15 @@ use crate::reply::Reply;
 
 const OUTCOMES: usize = 23;
 
+/// The call that is done with the number of cells that it copied.
+const TIDY: &str = "tidy";
+
 /// The refusals of each call, in the order of `CALLS` and, within a call, of the documents.
 pub const REFUSALS: [&[u32]; CALLS.len()] = [
     &[20],                             // fresh
     &[20, 22],                         // save
     &[20, 22],                         // load
+    &[20, 14],                         // tidy
     &[20, 1],                          // free
     &[20, 1, 2, 3, 19],                // new
     &[20, 1, 2, 3, 15, 11, 13, 14],    // work
@@ -47,6 +51,8 @@ pub struct Tally {
     counts: [[u64; OUTCOMES]; CALLS.len()],
     /// Those of runs that were stopped after some of their elements.
     midway: [[u64; OUTCOMES]; CALLS.len()],
+    /// Tidyings that moved something: with nothing to move they are done as well, and show little.
+    moving: u64,
 }
 
 impl Tally {
@@ -54,6 +60,7 @@ impl Tally {
         let outcome = reply.outcome() as usize;
         self.counts[call][outcome] += 1;
         self.midway[call][outcome] += u64::from(reply.stopped_midway());
+        self.moving += u64::from(CALLS[call] == TIDY && reply.is_done_with_some());
     }
 
     pub fn calls(&self) -> u64 {
@@ -66,6 +73,7 @@ impl Tally {
                 *count += more;
             }
         }
+        self.moving += other.moving;
     }
 
     /// The outcomes that the law knows and nobody has seen.
@@ -80,6 +88,9 @@ impl Tally {
         }
         let stops = self.stops_midway().into_iter().filter(|&(.., count)| count == 0);
         missing.extend(stops.map(|(word, refusal, _)| format!("{word} stopped midway by {refusal}")));
+        if self.moving == 0 {
+            missing.push(format!("{TIDY} that moves something"));
+        }
         missing
     }
 
@@ -95,6 +106,7 @@ impl Tally {
         for (word, refusal, count) in self.stops_midway() {
             table += &format!("{word} stopped midway by {refusal}: {count}\n");
         }
+        table += &format!("{TIDY} that moves something: {}\n", self.moving);
         table
     }
 

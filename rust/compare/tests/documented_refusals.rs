@@ -11,6 +11,7 @@ const METHODS: [&str; CALLS.len()] = [
     "fresh_start",
     "save",
     "load",
+    "tidy",
     "free_segments",
     "open_new",
     "open_work",

@@ -1,4 +1,5 @@
-//! "Fresh start, save and load name no user; they are the operator's, and none of them changes a store cell."
+//! "Fresh start, save and load name no user; they are the operator's, and none of them changes a store cell." Tidying is the
+//! operator's too, and does change store cells.
 
 use crate::answer::without_number;
 use crate::door;
@@ -120,5 +121,45 @@ impl Store<'_> {
     /// ```
     pub fn load(&mut self, image: &[u32]) -> Result<(), Refusal> {
         without_number(door::load(&self.cells, &mut self.tables, image))
+    }
+
+    /// Brings the permanent files' segments together at the begin of the store, and tells how many cells it copied. H being how
+    /// many segments are listed, the listed ones numbered H or above, in rising order, go to the free ones below H, in rising
+    /// order; no other moves. Every file reads the same, and the [cells](Store::cells) beyond the first 64 * H hold none.
+    ///
+    /// Segments left behind keep their cells. An image saved before names them: over these cells it is as good as it was only
+    /// until one of them is written to again. So [save](Store::save) after tidying.
+    ///
+    /// # Errors
+    ///
+    /// [`UnsoundTables`](Refusal::UnsoundTables) (20), [`NotNow`](Refusal::NotNow) (14) while anything at all is open, a file
+    /// that is only read and a new one without elements too.
+    ///
+    /// ```
+    /// use dorrivand::{pointer, Refusal, Species, Store};
+    ///
+    /// let mut store = Store::with_segments(4)?;
+    /// for (name, fault) in [("lift 7", 301), ("lift 8", 417)] {
+    ///     store.open_new(2, 0, Species::Bits32)?;
+    ///     store.write(2, 0, pointer::END, fault)?;
+    ///     store.rename(2, 0, name)?;
+    ///     store.close_private(2, 0)?;
+    /// }
+    ///
+    /// // Lift 7 is deleted, and its segment is free: lift 8 lies in the one after it.
+    /// store.open_work(2, 0, "lift 7")?;
+    /// store.rename(2, 0, "")?;
+    /// assert_eq!(store.tidy(), Err(Refusal::NotNow));
+    /// store.close_private(2, 0)?;
+    ///
+    /// assert_eq!(store.tidy(), Ok(64));
+    /// assert_eq!(store.cells()[0], 417);
+    /// assert_eq!(store.tidy(), Ok(0));
+    /// store.open_read(2, 0, "lift 8")?;
+    /// assert_eq!(store.next(2, 0, pointer::WORK), Ok(417));
+    /// # Ok::<(), Refusal>(())
+    /// ```
+    pub fn tidy(&mut self) -> Result<u32, Refusal> {
+        door::tidy(&mut self.cells, &mut self.tables)
     }
 }

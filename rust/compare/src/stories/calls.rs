@@ -113,9 +113,21 @@ impl Teller {
             0 => "fresh".to_string(),
             1..=4 => format!("load {image}"),
             5..=14 => format!("free {}", self.random.below(8)),
+            15..=17 => return self.tidy(),
             _ => format!("save {image}"),
         };
         self.say(line)?;
+        Ok(())
+    }
+
+    /// Mostly after a load of what was just saved: then nothing is open, and the records list what they did.
+    fn tidy(&mut self) -> Told {
+        if !self.random.once_in(4) {
+            let image = self.random.below(4);
+            self.say(format!("save {image}"))?;
+            self.say(format!("load {image}"))?;
+        }
+        self.say("tidy")?;
         Ok(())
     }
 }

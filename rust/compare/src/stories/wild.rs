@@ -83,7 +83,7 @@ impl Teller {
         let (third, fourth) = (self.wild_number(), self.wild_number());
         match call {
             "fresh" if !self.random.once_in(10) => self.say("free 7")?,
-            "fresh" => self.say("fresh")?,
+            "fresh" | "tidy" => self.say(call)?,
             "save" | "load" => self.say(format!("{call} {}", third % 4))?,
             "free" => self.say(format!("free {user}"))?,
             "work" | "read" | "rename" => {
