@@ -1,24 +1,30 @@
 //! Proved code and twin held against each other: the same answer, and the same store, tables, image, list and place afterwards; and runs held
 //! against their single calls. A difference stops the program. Calls that the twin does not have lead the proved code on, and the twin follows.
-use crate::calls::{refusal, Call, Lent, Performer, ABSENT};
+use crate::calls::{is_done, refusal, Call, Lent, Performer, ABSENT};
 use crate::chance::Chance;
 use crate::proved::{self, NOW};
-use crate::starts::{crowded, files_near_limits, full_files, lent, one_file};
+use crate::starts::{crowded, files_near_limits, full_files, lent, one_file, open_one, scattered_files};
 use crate::tables::{empty, filled, short, CELLS};
 use crate::{damage, singles, twin};
 
 /// How often each answer was given by both: 0 is done, n is refused n.
 pub type Answers = [u32; 23];
-/// The answers that the twin can give to calls that are no runs; what can stop a run; what can after its first element.
-const TWINS: [usize; 12] = [0, 1, 2, 4, 5, 6, 7, 8, 9, 10, 20, 22];
+/// The answers that the twin can give to calls that are no runs; to a tidying that moves nothing; what can stop a run; what can after its first element.
+const TWINS: [usize; 13] = [0, 1, 2, 4, 5, 6, 7, 8, 9, 10, 14, 20, 22];
+const UNMOVED: [usize; 3] = [0, 14, 20];
 const STOPS: [usize; 11] = [0, 1, 2, 4, 5, 6, 7, 8, 9, 10, 20];
 const LATE_STOPS: [usize; 5] = [0, 7, 8, 9, 10];
+/// Each of them must have been given so often at least.
+const OFTEN: u32 = 5;
 
 /// What the random calls were answered.
 #[derive(Default)]
 pub struct Heard {
     /// Calls that are no runs.
     pub calls: Answers,
+    /// Tidyings, which stand among those too: how many moved segments, and the others' answers.
+    pub moved: u32,
+    pub unmoved: Answers,
     /// What stopped the runs, 0 for nothing; and of those that came to an element.
     pub runs: Answers,
     pub late: Answers,
@@ -69,6 +75,11 @@ fn counted(call: &Call, lent: &mut Lent, beside: &mut Lent, heard: &mut Heard) -
     } else {
         heard.calls[refusal] += u32::from(twins);
     }
+    if let Call::Tidy = call {
+        let moved = is_done(answer) && answer > 0;
+        heard.moved += u32::from(moved);
+        heard.unmoved[refusal] += u32::from(!moved);
+    }
     refusal == 0
 }
 
@@ -111,7 +122,23 @@ fn runs_on_one_file(chance: &mut Chance, heard: &mut Heard) {
     }
 }
 
-/// Random histories over stores of several sizes, from empty and from crowded tables, and runs on files of any kind.
+/// Now and then a file is open, or cells are damaged. The second tidying finds what the first left.
+fn tidy_scattered(chance: &mut Chance, heard: &mut Heard) {
+    let mut lent = scattered_files(&mut chance.random);
+    if chance.random.one_in(8) {
+        open_one(&mut chance.random, &mut lent.tables);
+    }
+    assert!(twin::sound(&lent.tables, lent.store.len()), "tidyings begin on sound tables");
+    if chance.random.one_in(8) {
+        damage::tables(&mut chance.random, &mut lent);
+    }
+    let mut beside = lent.clone();
+    for _ in 0..2 {
+        counted(&Call::Tidy, &mut lent, &mut beside, heard);
+    }
+}
+
+/// Random histories over stores of several sizes, from empty, crowded and scattered tables, tidyings, and runs on files of any kind.
 pub fn histories() -> Heard {
     let mut heard = Heard::default();
     let mut chance = Chance::new(1973);
@@ -120,21 +147,27 @@ pub fn histories() -> Heard {
         history(&mut chance, lent(cells, empty(segments)), 25_000, 8, &mut heard);
     }
     for _ in 0..5 {
-        for lent in [lent(CELLS, filled(64, short, 16)), crowded(full_files), crowded(files_near_limits)] {
+        let scattered = scattered_files(&mut chance.random);
+        for lent in [lent(CELLS, filled(64, short, 16)), crowded(full_files), crowded(files_near_limits), scattered] {
             history(&mut chance, lent, 3_000, 8, &mut heard);
         }
+    }
+    for _ in 0..2_000 {
+        tidy_scattered(&mut chance, &mut heard);
     }
     for _ in 0..5_000 {
         runs_on_one_file(&mut chance, &mut heard);
     }
     often(&TWINS, &heard.calls);
+    often(&UNMOVED, &heard.unmoved);
+    assert!(heard.moved >= OFTEN, "too seldom among the random calls: a tidying that moves segments");
     often(&STOPS, &heard.runs);
     often(&LATE_STOPS, &heard.late);
     heard
 }
 
 fn often(answers: &[usize], heard: &Answers) {
-    let seldom = answers.iter().find(|&&answer| heard[answer] < 5);
+    let seldom = answers.iter().find(|&&answer| heard[answer] < OFTEN);
     assert!(seldom.is_none(), "too seldom among the random calls: answer {seldom:?} of {heard:?}");
 }
 

@@ -20,6 +20,7 @@ pub const DELIVERED: u32 = 40;
 pub enum Call {
     Save,
     Load,
+    Tidy,
     Free(u32),
     New(At, u32),
     Work(At, Vec<u8>),

@@ -11,7 +11,7 @@ pub const LONGEST_RUN: u32 = 2_500;
 
 pub struct Chance {
     pub random: Random,
-    /// The last call, and how often it is still to be made again.
+    /// The last call, or what comes after it, and how often that is still to be made.
     last: Call,
     again: u32,
 }
@@ -21,7 +21,8 @@ impl Chance {
         Chance { random: Random(seed), last: Call::Save, again: 0 }
     }
 
-    /// A call. An access is now and then made many times over, and a pointer asked for several times.
+    /// A call. An access is now and then made many times over, and a pointer asked for several times. After a load, which leaves nothing open, comes a
+    /// tidying.
     pub fn call(&mut self, tables: &[u32]) -> Call {
         if self.again > 0 {
             self.again -= 1;
@@ -39,9 +40,10 @@ impl Chance {
             Call::Write(..) | Call::Next(..) | Call::Prev(..) if self.random.one_in(3) => self.random.below(200),
             Call::Pointer(..) => self.random.below(4),
             Call::WriteRun(..) | Call::FillRun(..) if self.random.one_in(3) => self.random.below(5),
+            Call::Load => 1,
             _ => 0,
         };
-        self.last = call.clone();
+        self.last = if let Call::Load = call { Call::Tidy } else { call.clone() };
         call
     }
 
@@ -91,10 +93,11 @@ impl Chance {
     }
 
     fn operators(&mut self) -> Call {
-        if self.random.one_in(10) {
-            return Call::Load;
+        match self.random.below(10) {
+            0 => Call::Load,
+            1 => Call::Tidy,
+            _ => Call::Save,
         }
-        Call::Save
     }
 
     fn openings(&mut self, tables: &[u32]) -> Call {

@@ -19,6 +19,7 @@ mod scenes;
 mod singles;
 mod starts;
 mod tables;
+mod tidyings;
 mod twin;
 
 /// Where bench/run does not find SQLite.
@@ -46,6 +47,7 @@ fn main() {
         book.begin();
         decisions::write(&mut book);
         kinds::write(&mut book);
+        tidyings::write(&mut book);
         runs::write(&mut book);
         growth::write(&mut book);
         beside.pass();
@@ -59,6 +61,10 @@ fn agree_first() {
     let [calls, runs] = [heard.calls, heard.runs].map(|answers| answers.iter().sum::<u32>());
     println!("{calls} random calls: proved code and twin answer alike and leave the same cells.");
     println!("done and refused 1 to 22, how often: {:?}", heard.calls);
+    println!(
+        "tidyings among them: {} move segments; of the others done and refused 1 to 22: {:?}",
+        heard.moved, heard.unmoved
+    );
     println!("{runs} random runs, {} elements: alike too, and as their single calls.", heard.elements);
     println!("done and stopped by 1 to 22, how often: {:?}, after an element: {:?}", heard.runs, heard.late);
     tables::compact().iter().chain(&tables::scattered()).for_each(|(_, tables)| agree::soundness(tables));

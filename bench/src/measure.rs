@@ -72,7 +72,8 @@ fn differing(before: &[u32], after: &[u32]) -> Vec<(usize, u32)> {
     cells.filter(|(_, (kept, now))| kept != now).map(|(cell, (&kept, _))| (cell, kept)).collect()
 }
 
-/// Makes a call again and again. The cells that it changes in the tables are put back by hand after each, in the measured time.
+/// Makes a call again and again. The cells that it changes in the tables are put back by hand after each, in the measured time. Those of the store
+/// stay as it leaves them: what they hold changes no call's work, and putting them back would hide how long a tidying's own copies take.
 pub fn again<'a>(perform: Performer, call: &'a Call, mut lent: Lent) -> Turns<'a> {
     let mut after = lent.clone();
     perform(call, &mut after);

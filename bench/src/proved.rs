@@ -47,6 +47,7 @@ exports! {
     image_length() -> usize;
     save(Read<u32>, usize, Read<u32>, usize, Write, usize) -> u64;
     load(Read<u32>, usize, Write, usize, Read<u32>, usize) -> u64;
+    tidy(Write, usize, Write, usize) -> u64;
     free(Read<u32>, usize, Read<u32>, usize, u32) -> u64;
     new(Read<u32>, usize, Write, usize, u32, u32, u32) -> u64;
     work(Read<u32>, usize, Write, usize, u32, u32, Read<u8>, usize) -> u64;
@@ -104,6 +105,7 @@ impl Build {
         match *call {
             Call::Save => door!(const save, image.as_mut_ptr(), image.len()),
             Call::Load => door!(mut load, image.as_ptr(), image.len()),
+            Call::Tidy => door!(both tidy),
             Call::Free(user) => door!(const free, user),
             Call::New((user, entry), species) => door!(mut new, user, entry, species),
             Call::Work((user, entry), ref name) => door!(mut work, user, entry, name.as_ptr(), name.len()),

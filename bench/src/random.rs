@@ -28,6 +28,15 @@ impl Random {
         list.get(self.below(list.len() as u32) as usize)
     }
 
+    /// The numbers below a bound, in an order of chance.
+    pub fn shuffled(&mut self, bound: u32) -> Vec<u32> {
+        let mut numbers: Vec<u32> = (0..bound).collect();
+        for last in (1..bound).rev() {
+            numbers.swap(last as usize, self.below(last + 1) as usize);
+        }
+        numbers
+    }
+
     /// A number for a cell or a wild argument.
     pub fn cell(&mut self) -> u32 {
         match self.below(4) {

@@ -1,12 +1,12 @@
 //! What the measured calls find: so many records, an open file, other openings.
 use crate::calls::{is_done, At, Call, Lent, Performer};
-use crate::tables::{filled, open_new, short, Content, CELLS};
+use crate::tables::{filled, open_new, short, shuffled, Content, CELLS};
 use crate::{proved, twin};
 
 /// The user and entry of the measured calls.
 pub const HERE: At = (0, 0);
 /// Of each record, but on the full store.
-const HELD: u32 = 15;
+pub const HELD: u32 = 15;
 /// Segments between the records' and the open file's, for other openings or to be taken.
 const LEFT_FREE: u32 = 31;
 /// The longest run that is measured.
@@ -66,6 +66,11 @@ pub fn records(number: usize) -> Scene {
 /// 64 records of 16 segments each, so that no segment is free.
 pub fn full() -> Scene {
     Scene::of(filled(64, short, 16))
+}
+
+/// So many records of so many segments each, whose numbers are as told and dealt by chance.
+pub fn scattered(records: usize, held: usize, number: impl Fn(u32) -> u32) -> Scene {
+    Scene::of(shuffled(records, held, number))
 }
 
 /// Beside the records a new file with this begin, where its work pointer stands, and end.

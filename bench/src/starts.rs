@@ -2,9 +2,12 @@
 use crate::calls::{At, Lent};
 use crate::chance::LONGEST_RUN;
 use crate::random::Random;
-use crate::tables::{empty, file, open_new, reading, short, Content, CELLS, ELEMENTS, SEGMENTS};
-use crate::twin::layout::{opening, opening_mut};
-use crate::twin::{GREATEST_END, IMAGE};
+use crate::tables::{empty, file, open_new, reading, relist, short, Content, CELLS, ELEMENTS, SEGMENTS};
+use crate::twin::layout::{opening, opening_mut, record, PLACES};
+use crate::twin::{GREATEST_END, IMAGE, SEGMENT_CELLS};
+
+/// So few that a file or two hold nearly all of them.
+const FEW_SEGMENTS: u32 = 40;
 
 pub fn lent(cells: usize, tables: Vec<u32>) -> Lent {
     Lent {
@@ -40,6 +43,33 @@ pub fn files_near_limits(place: u32) -> Content {
         2 => Content { species: place % 6, begin: 1, end: 2, first },
         _ => Content { species: 1, begin: 2049, end: 2049, first },
     }
+}
+
+/// Nothing is open. Files of any kind, some or till one does not fit, hold segments from all over the store.
+pub fn scattered_files(random: &mut Random) -> Lent {
+    let most = if random.one_in(3) { FEW_SEGMENTS } else { SEGMENTS };
+    let segments = 1 + random.below(most);
+    let (mut left, mut tables) = (random.shuffled(segments), empty(segments));
+    for place in 0..random.below(PLACES as u32 + 1) as usize {
+        let content = any_content(random);
+        let Some(free) = left.len().checked_sub(content.held() as usize) else { break };
+        file(&mut tables, place, short(place), place as u32 % 8, content);
+        relist(&mut tables, place, left.drain(free..));
+    }
+    let beyond = random.below(SEGMENT_CELLS as u32);
+    lent(SEGMENT_CELLS * segments as usize + beyond as usize, tables)
+}
+
+/// An entry reads a record of its user's or works on it, or has a new file without elements.
+pub fn open_one(random: &mut Random, tables: &mut [u32]) {
+    let entry = random.below(32) as usize;
+    let place = entry / 4 + 8 * random.below(8) as usize;
+    if record(tables, place)[record::USED] == 0 {
+        open_new(tables, entry, Content { species: 0, begin: 1, end: 1, first: 0 });
+        return;
+    }
+    reading(tables, entry, place);
+    opening_mut(tables, entry)[opening::PERMIT] = random.below(2);
 }
 
 /// An entry has a file open that begins anywhere: a new one, or one that it works on or reads.

@@ -104,25 +104,26 @@ pub fn filled(records: usize, name: fn(usize) -> Name, held: u32) -> Vec<u32> {
     tables
 }
 
-/// 64 records of 15 segments each, their numbers as told: from a place and a stretch.
-fn dealt(number: impl Fn(usize, usize) -> u32) -> Vec<u32> {
-    let mut tables = filled(64, short, 15);
-    for place in 0..64 {
-        for stretch in 0..15 {
-            tables[19 + 50 * place + stretch] = number(place, stretch);
-        }
+/// The record at a place lists these segments, in place of the first ones that it had.
+pub fn relist(tables: &mut [u32], place: usize, segments: impl IntoIterator<Item = u32>) {
+    for (cell, segment) in tables[19 + 50 * place..51 + 50 * place].iter_mut().zip(segments) {
+        *cell = segment;
+    }
+}
+
+/// So many records that hold so many segments each, their numbers as told: from a place and a stretch.
+fn dealt(records: usize, held: usize, number: impl Fn(usize, usize) -> u32) -> Vec<u32> {
+    let mut tables = filled(records, short, held as u32);
+    for place in 0..records {
+        relist(&mut tables, place, (0..held).map(|stretch| number(place, stretch)));
     }
     tables
 }
 
-/// The numbers below 960 in an order of chance.
-fn shuffled() -> Vec<u32> {
-    let mut random = Random(7);
-    let mut numbers: Vec<u32> = (0..960).collect();
-    for last in (1..960).rev() {
-        numbers.swap(last, random.below(last as u32 + 1) as usize);
-    }
-    numbers
+/// The same, and chance deals the numbers: as told of 0, of 1 and so on, one for each segment that is listed.
+pub fn shuffled(records: usize, held: usize, number: impl Fn(u32) -> u32) -> Vec<u32> {
+    let order = Random(7).shuffled((records * held) as u32);
+    dealt(records, held, |place, stretch| number(order[held * place + stretch]))
 }
 
 /// Every entry reads a record of its user's.
@@ -152,12 +153,11 @@ pub fn compact() -> Vec<(&'static str, Vec<u32>)> {
 
 /// The same, and each file's segments lie apart.
 pub fn scattered() -> Vec<(&'static str, Vec<u32>)> {
-    let numbers = shuffled();
     vec![
-        ("64 records, 960 segments listed, at random", dealt(|place, stretch| numbers[15 * place + stretch])),
+        ("64 records, 960 segments listed, at random", shuffled(64, 15, |number| number)),
         (
             "64 records, 960 segments listed, each in the record before the last one's",
-            dealt(|place, stretch| (64 * stretch + 63 - place) as u32),
+            dealt(64, 15, |place, stretch| (64 * stretch + 63 - place) as u32),
         ),
     ]
 }

@@ -30,8 +30,13 @@ pub fn listed(tables: &[u32]) -> Listed {
     listed
 }
 
+/// How many are listed.
+pub fn count(listed: &Listed) -> u32 {
+    listed.iter().map(|&listed| u32::from(listed)).sum()
+}
+
 pub fn free_count(tables: &[u32]) -> u32 {
-    tables[0] - listed(tables).iter().map(|&listed| u32::from(listed)).sum::<u32>()
+    tables[0] - count(&listed(tables))
 }
 
 /// "A taken segment is always the lowest-numbered free one." By marks: one pass over the lists.

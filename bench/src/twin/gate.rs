@@ -1,4 +1,4 @@
-//! The refusals before a call's own: "Order: 20, 1, 2", "for a pointer call 4, 5".
+//! The refusals before a call's own: "Order: 20, 1, 2", "for a pointer call 4, 5"; for a tidying 20, 14.
 use super::layout::{self, opening};
 use super::openings::value;
 use super::soundness::sound;
@@ -13,6 +13,17 @@ pub fn user(store: &[u32], tables: &[u32], user: u32) -> Result<usize, Refusal> 
         return Err(Refusal::User);
     }
     Ok(user as usize)
+}
+
+/// Sound tables, and "nothing open (else refusal 14)".
+pub fn nothing_open(store: &[u32], tables: &[u32]) -> Result<(), Refusal> {
+    if !sound(tables, store.len()) {
+        return Err(Refusal::Tables);
+    }
+    if layout::openings(tables).any(|cells| cells[opening::OPEN] == 1) {
+        return Err(Refusal::NotNow);
+    }
+    Ok(())
 }
 
 /// An entry of all 32 that must be open.

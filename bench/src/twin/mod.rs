@@ -1,5 +1,5 @@
-//! What the measured calls cost in plain Rust, with nothing proved: soundness, free segments, write, next, prev, runs of them, one inquiry, save and load, by
-//! the rules of documents 01 and 02 over the same cells.
+//! What the measured calls cost in plain Rust, with nothing proved: soundness, free segments, write, next, prev, runs of them, one inquiry, save, load and
+//! tidying, by the rules of documents 01 and 02 over the same cells.
 mod access;
 mod free;
 mod gate;
@@ -12,13 +12,14 @@ mod perform;
 mod placing;
 mod runs;
 mod soundness;
+mod tidy;
 mod write;
 
 pub use free::{free_count, lowest_free, lowest_free_by_search};
 pub use image::IMAGE;
 pub use layout::TABLES;
 pub use perform::{perform, perform_singly};
-pub use placing::{GREATEST_END, WHOLE_SPECIES};
+pub use placing::{GREATEST_END, SEGMENT_CELLS, WHOLE_SPECIES};
 pub use soundness::sound;
 
 /// "The numbers a refusal carries"
@@ -33,6 +34,7 @@ pub enum Refusal {
     Segments = 8,
     Room = 9,
     Positions = 10,
+    NotNow = 14,
     Tables = 20,
     Image = 22,
 }

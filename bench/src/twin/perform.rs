@@ -1,7 +1,7 @@
 //! The twin makes a call.
 use super::means::{Fastest, Means, Singly};
 use super::runs::{fill_run, write_run, Ran};
-use super::{access, free, image, write, Answer};
+use super::{access, free, image, tidy, write, Answer};
 use crate::calls::{refused, Call, Lent, ABSENT};
 
 /// The answer as the door packs it; calls that the twin does not have are absent.
@@ -19,6 +19,7 @@ fn by<M: Means>(call: &Call, lent: &mut Lent) -> u64 {
     packed(match *call {
         Call::Save => image::save(store, tables, image),
         Call::Load => image::load(store, tables, image),
+        Call::Tidy => tidy::tidy(store, tables),
         Call::Free(user) => free::free(store, tables, user),
         Call::Write((user, entry), pointer, number) => write::write(store, tables, user, entry, pointer, number),
         Call::Next((user, entry), pointer) => access::next(store, tables, user, entry, pointer),
