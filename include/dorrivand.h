@@ -93,8 +93,9 @@ uint64_t dorrivand_load(const uint32_t *store, size_t store_length, uint32_t *ta
 /* Tidy: H being how many segments the records list, the listed ones numbered H or above, in rising order, go to the free
  * ones below H, in rising order; no other moves. Their 64 cells are copied, segments left behind keep theirs, and every file
  * reads the same. The store's cells beyond the first 64 * H hold no file then. The answer is the number of cells copied.
- * An image saved before names the old segments: over these cells it is good only until one that was left behind is written
- * to again. So save after tidying, and keep image and store of one moment together.
+ * An image saved before names the old segments. Saved just before, it is good over these cells until one that was left
+ * behind is written to again; an older one may name a segment that was free since and is written over here. So save after
+ * tidying, and keep image and store of one moment together.
  * Refusals: 20; 14 if anything at all is open, a reader or an empty new file too. */
 uint64_t dorrivand_tidy(uint32_t *store, size_t store_length, uint32_t *tables, size_t tables_length);
 

@@ -1,5 +1,5 @@
 -- The turns of the loops over pairs and rows. Assumes nothing.
-use Prim.Native.Nat.{ℕ, zero, suc, _+_, _-_, _*_, _≤_, _<_}
+use Prim.Native.Nat.{ℕ, suc, _+_, _-_, _*_, _≤_, _<_}
 use native.Mathlib.Omega.{arith}
 use native.Mathlib.Decide.{ℕ-discrete}
 use native.Mathlib.Nat.{not-suc-le-zero}
@@ -13,6 +13,7 @@ use borrow.Author.Tests.{eq-eqb, ne-eqb}
 use Rattle.placing.specs.Placing.{segment}
 use Rattle.store.specs.Store.{copied}
 use Rattle.segments.specs.Moves.{exchange, movedCells}
+use Rattle.proof_moves.specs.Renumbered.{map-at}
 
 -- ---- copies
 
@@ -126,10 +127,5 @@ module _ (f : ℕ → ℕ) (first : List ℕ) where
           ∙ ap f (w .rest k (omega arith) ∙ ap (λ (x : ℕ). getD first x 0) (sym e))
       go j lj (no d) = getD-set-other row k j (f (getD row k 0)) 0 d ∙ w .done j (omega (arith, d))
 
-  map-at : (l : List ℕ) (j : ℕ) → j < length l → getD (map f l) j 0 ≡ f (getD l j 0)
-  map-at [] j h = absurd (not-suc-le-zero h)
-  map-at (x ∷ l) zero h = refl
-  map-at (x ∷ l) (suc j) h = map-at l j (omega arith)
-
   pub row-done : (k : ℕ) (row : List ℕ) → length first ≤ k → RowTo f first k row → row ≡ map f first
-  row-done k row l w = ext-getD 0 row (map f first) (w .long ∙ sym (length-map first f)) (λ j lj. w .done j (omega (arith, w .long)) ∙ sym (map-at first j (omega (arith, w .long))))
+  row-done k row l w = ext-getD 0 row (map f first) (w .long ∙ sym (length-map first f)) (λ j lj. w .done j (omega (arith, w .long)) ∙ sym (map-at f first j (omega (arith, w .long))))

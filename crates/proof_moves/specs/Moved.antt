@@ -20,7 +20,7 @@ use Rattle.model.specs.View.{viewPlace, viewEntry, viewHouse}
 use Rattle.combine.specs.laws.Tests.{or-first, or-second}
 use Rattle.combine.specs.laws.Sums.{any-at}
 use Rattle.proof_moves.specs.Moves.{Exchange, Carries}
-use Rattle.proof_moves.specs.Renumbered.{renumberedOpening, renumbered, in-renumbered, place-renumbered, getD-map-in, mentions-renumbered, file-renumbered}
+use Rattle.proof_moves.specs.Renumbered.{renumberedOpening, renumbered, in-renumbered, map-at, place-renumbered, mentions-renumbered, file-renumbered}
 
 -- ---- lists
 
@@ -90,7 +90,7 @@ module _ (n : ℕ) (f : ℕ → ℕ) (w : Exchange n f) where
         each = length-map l f ∙ s .each;
         range = λ k h.
             let lk : k < length l = subst (λ (m : ℕ). k < m) (length-map l f) h in
-            subst (λ (g : ℕ). g < n) (sym (getD-map-in n f w l k lk)) (w .range (getD l k 0) (s .range k lk));
+            subst (λ (g : ℕ). g < n) (sym (map-at f l k lk)) (w .range (getD l k 0) (s .range k lk));
       }
 
   place-sound : (r : Option SegmentRecord) → SoundPlace n r → SoundPlace n (renumberedRecord f r)
@@ -106,7 +106,7 @@ module _ (n : ℕ) (f : ℕ → ℕ) (w : Exchange n f) where
     λ j k lj lk e.
         let lj′ : j < length (x .content) = subst (λ (m : ℕ). j < m) (length-map (x .content) f) lj in
         let lk′ : k < length (r .content) = subst (λ (m : ℕ). k < m) (length-map (r .content) f) lk in
-        let same : f (getD (x .content) j 0) ≡ f (getD (r .content) k 0) = sym (getD-map-in n f w (x .content) j lj′) ∙ e ∙ getD-map-in n f w (r .content) k lk′ in
+        let same : f (getD (x .content) j 0) ≡ f (getD (r .content) k 0) = sym (map-at f (x .content) j lj′) ∙ e ∙ map-at f (r .content) k lk′ in
         t .2 j k lj′ lk′ (sym (w .back (getD (x .content) j 0)) ∙ ap f same ∙ w .back (getD (r .content) k 0)),
   )
   tied-stays false u r x t = (t .0, t .1, t .2, t .3, t .4, ap (map f) (t .5))

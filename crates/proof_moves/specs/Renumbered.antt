@@ -34,6 +34,11 @@ renumberedOpening f (some x) = some (opening (x .handle) (map f (x .content)))
 abbrev pub renumbered : (ℕ → ℕ) → SegmentHouse → SegmentHouse
 renumbered f h = house (h .segments) (map (renumberedRecord f) (h .records)) (map (renumberedOpening f) (h .openings))
 
+pub map-at : (f : ℕ → ℕ) (l : List ℕ) (k : ℕ) → k < length l → getD (map f l) k 0 ≡ f (getD l k 0)
+map-at f [] k h = absurd (not-suc-le-zero h)
+map-at f (x ∷ xs) zero h = refl
+map-at f (x ∷ xs) (suc k) h = map-at f xs k (le-of-suc-le-suc h)
+
 module _ (n : ℕ) (f : ℕ → ℕ) (w : Exchange n f) where
   -- ---- how often a segment is listed
 
@@ -82,11 +87,6 @@ module _ (n : ℕ) (f : ℕ → ℕ) (w : Exchange n f) where
 
   -- ---- users know the same
 
-  pub getD-map-in : (l : List ℕ) (k : ℕ) → k < length l → getD (map f l) k 0 ≡ f (getD l k 0)
-  getD-map-in [] k h = absurd (not-suc-le-zero h)
-  getD-map-in (x ∷ xs) zero h = refl
-  getD-map-in (x ∷ xs) (suc k) h = getD-map-in xs k (le-of-suc-le-suc h)
-
   module _ (s s′ : List ℕ) where
     pub file-renumbered : (m sp b e : ℕ) (gs : List ℕ) → SoundFile m sp b e gs
         → ((g : ℕ) → T (isIn g gs) → (c : ℕ) → c < segmentCells → getD s′ (f g * segmentCells + c) 0 ≡ getD s (g * segmentCells + c) 0)
@@ -96,7 +96,7 @@ module _ (n : ℕ) (f : ℕ → ℕ) (w : Exchange n f) where
         let held = slot-within sp (ok .species) b (ok .first) e x l r in
         let k : ℕ = slotOf sp b x in
         let lk : k < length gs = omega (arith, ok .each) in
-        ap (λ (g : ℕ). elementOf s′ g x) (getD-map-in gs k lk)
+        ap (λ (g : ℕ). elementOf s′ g x) (map-at f gs k lk)
         ∙ element-of-cells s′ s sp (ok .species) (segment (f (getD gs k 0))) (segment (getD gs k 0)) (position x) (moved (getD gs k 0) (in-at (getD gs k 0) gs k lk refl)))
       where
         elementOf : List ℕ → ℕ → ℕ → ℕ

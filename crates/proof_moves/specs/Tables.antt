@@ -6,11 +6,12 @@ use mathlib.Core.Path.{_≡_, refl, sym, ap, _∙_, subst}
 use mathlib.Core.Logic.{_⊎_, ⊎-elim}
 use mathlib.Core.Bool.{false, not}
 use mathlib.Core.Option.{Option, none, some}
-use mathlib.Core.List.{List, _∷_, map}
+use mathlib.Core.List.{List, map}
 use lib.Dec.{T}
 use lib.ListN.{length, length-map}
 use Rattle.combine.specs.Lists.{tab}
 use Rattle.combine.specs.laws.Lists.{tab-cong}
+use Rattle.combine.specs.laws.Searches.{map-tab}
 use Rattle.combine.specs.laws.Sums.{not-any}
 use Rattle.placing.specs.Sizes.{places, entries, tablesLength}
 use Rattle.rules.specs.Headings.{isSome}
@@ -80,11 +81,6 @@ module _ (f : ℕ → ℕ) (t : List ℕ) (long : length t ≡ tablesLength) (fi
   renumbered-first (suc k) h = one-more k (renumberedFirst f k t) h (renumbered-first k (omega arith))
 
 -- ---- what the tables say afterwards
-
-map-tab : {A B : Type 0} (v : A → B) (m : ℕ) (f : ℕ → A) → map v (tab m f) ≡ tab m (λ k. v (f k))
-unfolding tab
-map-tab v zero f = refl
-map-tab {B = B} v (suc m) f = ap (λ (l : List B). v (f 0) ∷ l) (map-tab v m (λ k. f (suc k)))
 
 nobody : (x : Option SegmentOpening) → T (not (isSome x)) → (f : ℕ → ℕ) → renumberedOpening f x ≡ x
 nobody none t f = refl

@@ -28,25 +28,26 @@ use Rattle.tidy_plan.proofs.Sorting.{kind-one, kind-two}
 
 -- ---- what they are of the house that the tables say
 
+-- the marks were all 0, and then those of what is listed were set
+free-marks : (h : SegmentHouse) (marks : List ℕ) → ((g : ℕ) → eqb (getD marks g 0) 0 ≡ (eqb (getD (replicate 1024 0) g 0) 0 && isFree h g)) → (g : ℕ) → eqb (getD marks g 0) 0 ≡ isFree h g
+free-marks h marks marked g = marked g ∙ ap (λ (n : ℕ). eqb n 0 && isFree h g) (replicate-at {A = ℕ} 1024 g 0)
+
 module _ (h : SegmentHouse) (marks kinds : List ℕ) (low : ℕ)
     (marked : (g : ℕ) → eqb (getD marks g 0) 0 ≡ (eqb (getD (replicate 1024 0) g 0) 0 && isFree h g))
     (sorted : (g : ℕ) → g < h .segments → getD kinds g 0 ≡ kindOf (getD marks g 0) g low)
     (count : low ≡ listedCount h) where
-  free-marks : (g : ℕ) → eqb (getD marks g 0) 0 ≡ isFree h g
-  free-marks g = marked g ∙ ap (λ (n : ℕ). eqb n 0 && isFree h g) (replicate-at {A = ℕ} 1024 g 0)
-
   pub high-kind : (g : ℕ) → g < h .segments → isKind kinds 1 g ≡ isHigh h g
   unfolding isListed
   high-kind g l =
       ap (λ (n : ℕ). eqb n 1) (sorted g l) ∙ kind-one (getD marks g 0) g low
-      ∙ (λ i. not (free-marks g i) && leb (count i) g)
+      ∙ (λ i. not (free-marks h marks marked g i) && leb (count i) g)
       ∙ sym (ap (λ (b : Bool). (b && not (isFree h g)) && leb (listedCount h) g) (lt-ltb g (h .segments) l))
 
   pub gap-kind : (g : ℕ) → g < h .segments → isKind kinds 2 g ≡ isGap h g
   unfolding isVacant
   gap-kind g l =
       ap (λ (n : ℕ). eqb n 2) (sorted g l) ∙ kind-two (getD marks g 0) g low
-      ∙ (λ i. free-marks g i && ltb g (count i))
+      ∙ (λ i. free-marks h marks marked g i && ltb g (count i))
       ∙ sym (ap (λ (b : Bool). (b && isFree h g) && ltb g (listedCount h)) (lt-ltb g (h .segments) l))
 
 -- ---- how many are listed
@@ -131,7 +132,7 @@ module _ (t marks : List ℕ) (u : ℕ)
     (marked : (g : ℕ) → eqb (getD marks g 0) 0 ≡ (eqb (getD (replicate 1024 0) g 0) 0 && isFree (houseOf t) g))
     (counted : u ≡ countBelow (segmentsIn t) (λ g. eqb (getD marks g 0) 0)) where
   free-counted : (m : ℕ) → countBelow m (λ g. eqb (getD marks g 0) 0) ≡ countBelow m (isFree (houseOf t))
-  free-counted m = count-cong (λ g. eqb (getD marks g 0) 0) (isFree (houseOf t)) m (λ g l. marked g ∙ ap (λ (n : ℕ). eqb n 0 && isFree (houseOf t) g) (replicate-at {A = ℕ} 1024 g 0))
+  free-counted m = count-cong (λ g. eqb (getD marks g 0) 0) (isFree (houseOf t)) m (λ g l. free-marks (houseOf t) marks marked g)
 
   low-is : segmentsIn t - u ≡ listedCount (houseOf t)
   low-is =

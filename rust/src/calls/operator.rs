@@ -127,8 +127,9 @@ impl Store<'_> {
     /// many segments are listed, the listed ones numbered H or above, in rising order, go to the free ones below H, in rising
     /// order; no other moves. Every file reads the same, and the [cells](Store::cells) beyond the first 64 * H hold none.
     ///
-    /// Segments left behind keep their cells. An image saved before names them: over these cells it is as good as it was only
-    /// until one of them is written to again. So [save](Store::save) after tidying.
+    /// Segments left behind keep their cells. An image saved just before names them: over these cells it is good until one of
+    /// them is written to again. An older one may name a segment that was free since and is written over here. So
+    /// [save](Store::save) after tidying.
     ///
     /// # Errors
     ///
