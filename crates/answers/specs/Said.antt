@@ -1,10 +1,13 @@
 -- An answer in document 01's numbers. Assumes nothing.
 use Prim.Native.Nat.{ℕ}
+use lib.IntN.{ℤ}
 use Rattle.answers.specs.declared.Refusal.{Refusal}
 use Rattle.answers.specs.declared.Refusal.the-variants as R
 use Rattle.answers.specs.declared.Answer.{Answer}
 use Rattle.answers.specs.declared.Answer.the-variants.{Done, Refused}
-use Rattle.combine.specs.Verdict.{Said, refused, done}
+use Rattle.answers.specs.declared.SignedAnswer.{SignedAnswer}
+use Rattle.answers.specs.declared.SignedAnswer.the-variants as S
+use Rattle.combine.specs.Verdict.{Verdict, Said, refused, done}
 
 -- the table of refusals; 12 is a hole in it: "12 is never given again" (document 02, P4)
 abbrev pub refusalNumber : Refusal → ℕ
@@ -42,7 +45,7 @@ refusalNumber R.Taken = 16
 refusalNumber R.Place = 17
 -- read or scratch closed as public
 refusalNumber R.Public = 18
--- species above 5
+-- species above 6, or not of the call's kind (document 02, P5)
 refusalNumber R.Species = 19
 -- tables of wrong length or unsound, or store under 64 cells
 refusalNumber R.Tables = 20
@@ -50,8 +53,15 @@ refusalNumber R.Tables = 20
 refusalNumber R.Pointers = 21
 -- image of wrong length, or unsound
 refusalNumber R.Image = 22
+-- a number too wide for its species, or outside its range where it is signed (document 02, P5)
+refusalNumber R.Wide = 23
 
 -- what an answer says
 abbrev pub said : Answer → Said
 said (Done n) = done n
 said (Refused r) = refused (refusalNumber r)
+
+-- of a call that gives a signed number
+abbrev pub saidSigned : SignedAnswer → Verdict ℤ
+saidSigned (S.Done z) = done z
+saidSigned (S.Refused r) = refused (refusalNumber r)

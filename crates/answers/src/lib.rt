@@ -2,7 +2,7 @@
 ghost use mathlib.Core.Path.{_≡_};
 ghost use Rattle.answers.specs.Said.{refusalNumber};
 
-// Why a call is refused, in the order of document 01's numbers 1 to 22; 12 is never given again (document 02, P4), and no other refusal gets it.
+// Why a call is refused, in the order of their numbers: document 01's 1 to 22, and document 02's; 12 is never given again (P4), and no other refusal gets it.
 pub enum Refusal {
     User,
     Entry,
@@ -25,12 +25,19 @@ pub enum Refusal {
     Tables,
     Pointers,
     Image,
+    Wide,
 }
 
 // "An answer is either done, with its number where there is one, or refused, with one of these inside it": done is 0 where
 // there is no number.
 pub enum Answer {
     Done(u32),
+    Refused(Refusal),
+}
+
+// The same, where the number is signed.
+pub enum SignedAnswer {
+    Done(i32),
     Refused(Refusal),
 }
 
@@ -60,5 +67,6 @@ pub fn number(refusal: Refusal) -> u32
         Refusal::Tables => 20,
         Refusal::Pointers => 21,
         Refusal::Image => 22,
+        Refusal::Wide => 23,
     }
 }

@@ -10,3 +10,4 @@ pub mod Catalogue
 pub mod Lowered
 pub mod Operator
 pub mod Sized
+pub mod Signed

@@ -1,64 +1,18 @@
 -- The worked examples that document 01 marks, and those of document 02's requests, as one list. Assumes nothing.
 use Prim.Native.Nat.{ℕ, _*_}
-use mathlib.Core.Path.{_≡_}
 use mathlib.Core.Bool.{true, false}
 use mathlib.Core.List.{List, [], _∷_, map, _++_}
-use lib.ListN.{length, replicate}
-use Rattle.combine.specs.Verdict.{Said, done, refused}
-use Rattle.combine.specs.Outcome.{outcomeOf}
-use Rattle.placing.specs.Sizes.{Cells, segmentCells, tablesLength}
+use lib.IntN.{pos, negsuc}
+use lib.ListN.{replicate}
+use Rattle.combine.specs.Verdict.{done, refused}
+use Rattle.placing.specs.Sizes.{Cells, segmentCells}
 use Rattle.placing.specs.Placing.{segment, position, heldOf, claimOf}
 use Rattle.store.specs.Store.{putElement}
 use Rattle.names.specs.Names.{Bytes, nameOf}
-use Rattle.rules.specs.Calls.{new, work, read, rename, reset, newPointer, write, next, prev, askBegin, askEnd, askValue, Request, opens, closes, abandons, uses}
+use Rattle.rules.specs.Calls.{new, work, read, rename, reset, newPointer, write, next, prev, writeSigned, nextSigned, prevSigned, askBegin, askEnd, askValue, Request, opens, closes, abandons, uses}
 use Rattle.rules.specs.Calls.{Run, writes, fills, tidy, Call, fresh, starts, arranges, on, runs}
 use Rattle.rules.specs.Runs.{RunTold, noRun}
-use Rattle.image.specs.Image.{form1, imageLength}
-use Rattle.cells.specs.Outcomes.{Lent, lent, saved, saveOut, callRun}
-use Rattle.demands.specs.History.{outcomeOn, afterCall, final}
-
--- ---- what is said of calls one after another, over a store of so many cells: whatever it, the tables and an image buffer held before
-
--- the calls are answered so
-abbrev pub answersOn : List Call → Lent → List Said
-answersOn [] x = []
-answersOn (c ∷ cs) x = outcomeOn c x .answer ∷ answersOn cs (afterCall c x)
-
-unfoldable pub AnswersSo : (cells : ℕ) (calls : List Call) (said : List Said) → Type 0
-AnswersSo n calls said = (store tables : Cells) → length store ≡ n → length tables ≡ tablesLength → answersOn calls (lent store tables) ≡ said
-
--- the runs among the calls tell so beside their answers
-abbrev pub runsOn : List Call → Lent → List RunTold
-runsOn [] x = []
-runsOn (c ∷ cs) x = callRun c (x .store) (x .tables) ∷ runsOn cs (afterCall c x)
-
-unfoldable pub TellsSo : (cells : ℕ) (calls : List Call) (told : List RunTold) → Type 0
-TellsSo n calls told = (store tables : Cells) → length store ≡ n → length tables ≡ tablesLength → runsOn calls (lent store tables) ≡ told
-
--- a save after the calls is done, leaves the image in the buffer, and store and tables as the calls left them
-unfoldable pub SavesAfter : (cells : ℕ) (calls : List Call) (image : Cells) → Type 0
-SavesAfter n calls image =
-    (store tables buffer : Cells) → length store ≡ n → length tables ≡ tablesLength → length buffer ≡ imageLength form1
-    → let x = final calls (lent store tables) in
-    saveOut (x .store) (x .tables) buffer ≡ outcomeOf (done 0) (saved (x .store) (x .tables) image)
-
--- ---- what is said of that, and of numbers that the definitions give
-
-pub data Example : Type 0 where
-  numbers : (given said : List ℕ) → Example
-  answers : (cells : ℕ) (calls : List Call) (said : List Said) → Example
-  tells : (cells : ℕ) (calls : List Call) (told : List RunTold) → Example
-  saves : (cells : ℕ) (calls : List Call) (image : Cells) → Example
-
-abbrev pub Holds : Example → Type 0
-Holds (numbers given said) = given ≡ said
-Holds (answers n calls said) = AnswersSo n calls said
-Holds (tells n calls told) = TellsSo n calls told
-Holds (saves n calls image) = SavesAfter n calls image
-
-abbrev pub AllHold : List Example → Type 0
-AllHold [] = Unit {0}
-AllHold (x ∷ xs) = Holds x × AllHold xs
+use Rattle.examples.specs.Holding.{Example, numbers, answers, gives, tells, saves}
 
 -- ---- the examples; a user's calls are of user 2 by entry 0
 
@@ -76,9 +30,9 @@ lift = numbers (nameOf (76 ∷ 105 ∷ 102 ∷ 116 ∷ [])) (replicate 12 63)
 abbrev pub ten : Example
 ten = numbers (putElement (replicate 64 0) 2 (segment 0) (position 10) 10) (0 ∷ 0x0A000000 ∷ replicate 62 0)
 
--- writing 300 in species 3 stores 44
-abbrev pub loses : Example
-loses = answers segmentCells (starts fresh ∷ asked (opens (new 3) ∷ uses (write 1 300) ∷ uses (next 2) ∷ [])) (done 0 ∷ done 0 ∷ done 0 ∷ done 44 ∷ [])
+-- writing 300 in species 3 is 23, and nothing is stored (document 02, P5: "01's example with 300 changes so")
+abbrev pub notCut : Example
+notCut = answers segmentCells (starts fresh ∷ asked (opens (new 3) ∷ uses (write 1 300) ∷ uses (next 2) ∷ [])) (done 0 ∷ done 0 ∷ refused 23 ∷ refused 7 ∷ [])
 
 -- width 32, b = 64, e = 66: two segments, claim 65; b = e = 65: none, claim 0
 abbrev pub claims : Example
@@ -134,12 +88,12 @@ ranBy r = runs 2 0 r
 abbrev pub told : (stop : ℕ) (list : List ℕ) → RunTold
 told n l = record { stop = n; list = l }
 
--- in a new file of species 3 a run of 300, 7, 9 through pointer 1 is done, 3; after a reset five places filled by next through pointer 2 are done, 3,
--- stopped by 7: they have 44 (300 cut as a write cuts it), 7, 9, and the two others are as they were; after a reset a run of 1, 2, 3, 4 through
--- pointer 2 is done, 3, stopped by 7, and hands back 4; an empty run through pointer 5, which is not there, is refused, 4
+-- in a new file of species 3 a run of 44, 7, 9, 300, 8 through pointer 1 is done, 3, stopped by 23, and hands back 300, 8; after a reset five places
+-- filled by next through pointer 2 are done, 3, stopped by 7: they have 44, 7, 9, and the two others are as they were; after a reset a run of 1, 2, 3, 4
+-- through pointer 2 is done, 3, stopped by 7, and hands back 4; an empty run through pointer 5, which is not there, is refused, 4
 abbrev pub makesRuns : List Call
 makesRuns =
-    starts fresh ∷ on 2 0 (opens (new 3)) ∷ ranBy (writes 1 (300 ∷ 7 ∷ 9 ∷ []))
+    starts fresh ∷ on 2 0 (opens (new 3)) ∷ ranBy (writes 1 (44 ∷ 7 ∷ 9 ∷ 300 ∷ 8 ∷ []))
     ∷ on 2 0 (uses reset) ∷ ranBy (fills 2 (91 ∷ 92 ∷ 93 ∷ 94 ∷ 95 ∷ []))
     ∷ on 2 0 (uses reset) ∷ ranBy (writes 2 (1 ∷ 2 ∷ 3 ∷ 4 ∷ []))
     ∷ ranBy (writes 5 []) ∷ []
@@ -150,7 +104,7 @@ runsAnswered = answers segmentCells makesRuns (done 0 ∷ done 0 ∷ done 3 ∷ 
 abbrev pub runsTold : Example
 runsTold =
     tells segmentCells makesRuns
-    (noRun ∷ noRun ∷ told 0 [] ∷ noRun ∷ told 7 (44 ∷ 7 ∷ 9 ∷ 94 ∷ 95 ∷ []) ∷ noRun ∷ told 7 (4 ∷ []) ∷ told 4 [] ∷ [])
+    (noRun ∷ noRun ∷ told 23 (300 ∷ 8 ∷ []) ∷ noRun ∷ told 7 (44 ∷ 7 ∷ 9 ∷ 94 ∷ 95 ∷ []) ∷ noRun ∷ told 7 (4 ∷ []) ∷ told 4 [] ∷ [])
 
 -- ---- where the work pointer starts (document 02, P2)
 
@@ -197,5 +151,22 @@ tidies =
     answers (segmentCells * 3) (starts fresh ∷ (removesA ++ arranges tidy ∷ asked (opens (read bytesOfB) ∷ uses (next 2) ∷ [])))
     (done 0 ∷ (replicate 11 (done 0) ++ (done 64 ∷ done 0 ∷ done 20 ∷ [])))
 
+-- ---- degrees below zero (document 02, P5): negsuc k is -(k + 1)
+
+-- a new file of species 6 gets -5, and the ends of the range, 32,767 and -32,768; 32,768 is 23, and -32,769 too, through 0; the plain calls are 19, and
+-- an empty run; next gives -5 and 32,767, prev through 1 gives -32,768; species 7 is 19, and in a file of species 5 the signed calls are, before 4
+abbrev pub degrees : Example
+degrees =
+    gives segmentCells
+    (starts fresh ∷ asked
+    (opens (new 6) ∷ uses (writeSigned 1 (negsuc 4)) ∷ uses (writeSigned 1 (pos 32767)) ∷ uses (writeSigned 1 (negsuc 32767))
+    ∷ uses (writeSigned 1 (pos 32768)) ∷ uses (writeSigned 0 (negsuc 32768)) ∷ uses (write 1 5) ∷ uses (next 2) ∷ uses (prev 1) ∷ [])
+    ++ (ranBy (writes 1 []) ∷ asked (uses (nextSigned 2) ∷ uses (nextSigned 2) ∷ uses (prevSigned 1) ∷ [])
+    ++ (on 2 1 (opens (new 7)) ∷ on 2 1 (opens (new 5)) ∷ on 2 1 (uses (writeSigned 1 (pos 5))) ∷ on 2 1 (uses (nextSigned 9)) ∷ [])))
+    (replicate 5 (done (pos 0))
+    ++ (refused 23 ∷ refused 23 ∷ refused 19 ∷ refused 19 ∷ refused 19
+    ∷ refused 19 ∷ done (negsuc 4) ∷ done (pos 32767) ∷ done (negsuc 32767)
+    ∷ refused 19 ∷ done (pos 0) ∷ refused 19 ∷ refused 19 ∷ []))
+
 abbrev pub worked : List Example
-worked = lift7 ∷ lift ∷ ten ∷ loses ∷ claims ∷ appends ∷ ownPointer ∷ savedFresh ∷ savedFile ∷ givenUp ∷ runsAnswered ∷ runsTold ∷ startsAtTheEnd ∷ looksAbsent ∷ tidies ∷ []
+worked = lift7 ∷ lift ∷ ten ∷ notCut ∷ claims ∷ appends ∷ ownPointer ∷ savedFresh ∷ savedFile ∷ givenUp ∷ runsAnswered ∷ runsTold ∷ startsAtTheEnd ∷ looksAbsent ∷ tidies ∷ degrees ∷ []

@@ -1,12 +1,11 @@
 -- The state as its users know it: files are lists of elements, and there are no segment numbers. Assumes nothing.
-use Prim.Native.Nat.{ℕ, _+_, _-_, _%_, _^_}
+use Prim.Native.Nat.{ℕ, _+_, _-_}
 use mathlib.Core.Bool.{Bool, true, false}
 use mathlib.Core.Option.{Option, none, some}
 use mathlib.Core.List.{List, []}
 use lib.Dec.{ltb}
 use lib.ListN.{length, getD, take, drop, replicate}
 use Rattle.combine.specs.Lists.{total, put}
-use Rattle.placing.specs.Sizes.{widthOf}
 use Rattle.placing.specs.Placing.{heldOf}
 use Rattle.rules.specs.Headings.{Handle, Filed, Open, value, holds, slotIn}
 use Rattle.rules.specs.Effects.{Deed, stays, firstLeaves, lastLeaves, stores, Delivered, plain, element}
@@ -57,14 +56,13 @@ free h = h .segments - (total heldBy (h .records) + total ownedBy (h .openings))
 
 -- ---- the level
 
--- a stretch is dropped if no position is left in it; a stretch that is stored into is the opening's own; "A written number too wide for the
--- species loses its top bits"
+-- a stretch is dropped if no position is left in it; a stretch that is stored into is the opening's own; elements are what was written: "No silent
+-- cutting" (document 02, P5)
 abbrev pub bodyAfter : Open Body → (afterwards : Handle) → Deed → Body
 bodyAfter x n stays = x .content
 bodyAfter x n firstLeaves = body (drop 1 (x .content .elements)) (drop (length (x .content .shared) - holds n) (x .content .shared))
 bodyAfter x n lastLeaves = body (take (length (x .content .elements) - 1) (x .content .elements)) (take (holds n) (x .content .shared))
-bodyAfter x n (stores v k) =
-    body (put (x .content .elements) (v - value (x .handle) 0) (k % 2 ^ widthOf (x .handle .species))) (put (x .content .shared) (slotIn (x .handle) v) false)
+bodyAfter x n (stores v k) = body (put (x .content .elements) (v - value (x .handle) 0) k) (put (x .content .shared) (slotIn (x .handle) v) false)
 
 abbrev pub elementsOfFile : Option File → List ℕ
 elementsOfFile none = []

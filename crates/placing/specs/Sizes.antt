@@ -54,15 +54,19 @@ mostHeld = 32
 abbrev pub greatestEnd : ℕ
 greatestEnd = 16777215
 
--- "Species 0 to 5 have elements of 1, 2, 4, 8, 16 and 32 bits, so E = 2048, 1024, 512, 256, 128 and 64 elements in a segment."
+-- "Species 0 to 5 have elements of 1, 2, 4, 8, 16 and 32 bits, so E = 2048, 1024, 512, 256, 128 and 64 elements in a segment."; document 02, P5:
+-- "Add species 6: signed temperatures .. in 16 bits, .. E = 128."
 abbrev pub greatestSpecies : ℕ
-greatestSpecies = 5
+greatestSpecies = 6
+
+abbrev pub signedSpecies : ℕ
+signedSpecies = 6
 
 unfoldable pub widthOf : (species : ℕ) → ℕ
-widthOf s = getD (1 ∷ 2 ∷ 4 ∷ 8 ∷ 16 ∷ 32 ∷ []) s 0
+widthOf s = getD (1 ∷ 2 ∷ 4 ∷ 8 ∷ 16 ∷ 32 ∷ 16 ∷ []) s 0
 
 unfoldable pub elementsOf : (species : ℕ) → ℕ
-elementsOf s = getD (2048 ∷ 1024 ∷ 512 ∷ 256 ∷ 128 ∷ 64 ∷ []) s 0
+elementsOf s = getD (2048 ∷ 1024 ∷ 512 ∷ 256 ∷ 128 ∷ 64 ∷ 128 ∷ []) s 0
 
 -- 64 at the least, and so the stretches up to the greatest end are below this number
 abbrev pub leastElements : ℕ

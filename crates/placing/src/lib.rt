@@ -63,13 +63,15 @@ pub const OPENINGS_START: usize = RECORDS_START + PLACES * RECORD_LENGTH;
 
 pub const TABLES_LENGTH: usize = OPENINGS_START + ENTRIES * OPENING_LENGTH;
 
-// "Species 0 to 5 have elements of 1, 2, 4, 8, 16 and 32 bits"
-pub const GREATEST_SPECIES: u32 = 5;
+// "Species 0 to 5 have elements of 1, 2, 4, 8, 16 and 32 bits"; species 6, signed, of 16 (document 02, P5)
+pub const GREATEST_SPECIES: u32 = 6;
 
-pub const WIDTHS: [u32; 6] = [1, 2, 4, 8, 16, 32];
+pub const SIGNED_SPECIES: u32 = 6;
 
-// "so E = 2048, 1024, 512, 256, 128 and 64 elements in a segment"
-pub const ELEMENTS: [u32; 6] = [2048, 1024, 512, 256, 128, 64];
+pub const WIDTHS: [u32; 7] = [1, 2, 4, 8, 16, 32, 16];
+
+// "so E = 2048, 1024, 512, 256, 128 and 64 elements in a segment"; of species 6, "E = 128"
+pub const ELEMENTS: [u32; 7] = [2048, 1024, 512, 256, 128, 64, 128];
 
 // "The begin and end values are 1 to 16,777,215."
 pub const GREATEST_END: u32 = 16777215;

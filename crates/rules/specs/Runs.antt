@@ -1,6 +1,6 @@
 -- Document 02, P1: runs of elements. "The outcome equals the single calls made one after another". Assumes nothing.
 use Prim.Native.Nat.{ℕ}
-use mathlib.Core.Bool.{Bool, true, not, _&&_, cond}
+use mathlib.Core.Bool.{Bool, true, false, not, _&&_, cond}
 use mathlib.Core.Option.{Option, none, some}
 use mathlib.Core.List.{List, [], _++_, map}
 use lib.Dec.{eqb}
@@ -19,11 +19,12 @@ abbrev pub requestsOf : Run → List Request
 requestsOf (writes p l) = map (λ n. uses (write p n)) l
 requestsOf (fills p l) = map (λ n. uses (next p)) l
 
--- "a list of length 0 still gets refusals 20, 1, 2, 4, 5 where they apply": 2, 4 and 5, by the entry's handle
+-- "a list of length 0 still gets refusals 20, 1, 2, 4, 5 where they apply": 2, 4 and 5, by the entry's handle; document 02, P5: the plain calls refuse
+-- species 6 with 19, "so do P1's runs, at length 0 too"
 abbrev pub admits : Run → (entry : Option Handle) → Said
 admits r none = refused 2
-admits (writes p l) (some h) = pointerGate p true h (done 0)
-admits (fills p l) (some h) = pointerGate p (eqb p 0) h (done 0)
+admits (writes p l) (some h) = pointerGate false p true h (done 0)
+admits (fills p l) (some h) = pointerGate false p (eqb p 0) h (done 0)
 
 abbrev pub admission : {C B : Type 0} → (sound : Bool) → Run → (user entry : ℕ) → House C B → Said
 admission sound r u e h = entryGate sound u e (admits r (handleOf (getD (h .openings) (entryOf u e) none)))

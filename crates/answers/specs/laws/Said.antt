@@ -4,19 +4,22 @@ use mathlib.Core.Path.{_≡_, refl, sym, ap, _∙_}
 use mathlib.Core.Logic.{_≢_}
 use mathlib.Core.List.{[], _∷_}
 use native.Mathlib.Omega.{arith}
+use lib.IntN.{ℤ}
 use lib.ListN.{getD}
 use Rattle.answers.specs.declared.Refusal.{Refusal}
 use Rattle.answers.specs.declared.Refusal.the-variants as R
 use Rattle.answers.specs.declared.Answer.{Answer}
 use Rattle.answers.specs.declared.Answer.the-variants.{Done, Refused}
-use Rattle.combine.specs.Verdict.{Said, refused, done}
-use Rattle.answers.specs.Said.{refusalNumber, said}
+use Rattle.answers.specs.declared.SignedAnswer.{SignedAnswer}
+use Rattle.answers.specs.declared.SignedAnswer.the-variants as S
+use Rattle.combine.specs.Verdict.{Verdict, Said, refused, done}
+use Rattle.answers.specs.Said.{refusalNumber, said, saidSigned}
 
 -- ---- there is one answer that says it
 
 -- at 12, which is never given, stands any of them
 refusalOf : ℕ → Refusal
-refusalOf n = getD (R.User ∷ R.Entry ∷ R.Open ∷ R.Pointer ∷ R.Permit ∷ R.Below ∷ R.Beyond ∷ R.Segments ∷ R.Room ∷ R.Positions ∷ R.Unknown ∷ R.User ∷ R.NoWork ∷ R.NotNow ∷ R.Empty ∷ R.Taken ∷ R.Place ∷ R.Public ∷ R.Species ∷ R.Tables ∷ R.Pointers ∷ R.Image ∷ []) (n - 1) R.User
+refusalOf n = getD (R.User ∷ R.Entry ∷ R.Open ∷ R.Pointer ∷ R.Permit ∷ R.Below ∷ R.Beyond ∷ R.Segments ∷ R.Room ∷ R.Positions ∷ R.Unknown ∷ R.User ∷ R.NoWork ∷ R.NotNow ∷ R.Empty ∷ R.Taken ∷ R.Place ∷ R.Public ∷ R.Species ∷ R.Tables ∷ R.Pointers ∷ R.Image ∷ R.Wide ∷ []) (n - 1) R.User
 
 refusal-of : (r : Refusal) → refusalOf (refusalNumber r) ≡ r
 unfolding refusalOf
@@ -41,6 +44,7 @@ refusal-of R.Species = refl
 refusal-of R.Tables = refl
 refusal-of R.Pointers = refl
 refusal-of R.Image = refl
+refusal-of R.Wide = refl
 
 -- "12 is never given again": no refusal has the number
 pub twelve-is-none : (r : Refusal) → refusalNumber r ≢ 12
@@ -60,3 +64,15 @@ answer-of (Refused r) = ap Refused (refusal-of r)
 
 pub one-answer : (a b : Answer) → said a ≡ said b → a ≡ b
 one-answer a b e = sym (answer-of a) ∙ ap answerOf e ∙ answer-of b
+
+signedAnswerOf : Verdict ℤ → SignedAnswer
+signedAnswerOf (done z) = S.Done z
+signedAnswerOf (refused n) = S.Refused (refusalOf n)
+
+signed-answer-of : (a : SignedAnswer) → signedAnswerOf (saidSigned a) ≡ a
+unfolding signedAnswerOf
+signed-answer-of (S.Done z) = refl
+signed-answer-of (S.Refused r) = ap S.Refused (refusal-of r)
+
+pub one-signed-answer : (a b : SignedAnswer) → saidSigned a ≡ saidSigned b → a ≡ b
+one-signed-answer a b e = sym (signed-answer-of a) ∙ ap signedAnswerOf e ∙ signed-answer-of b

@@ -14,6 +14,7 @@ use Rattle.combine.specs.Run.{Ran, runOver, admitted}
 use Rattle.combine.specs.laws.Below.{not-both}
 use Rattle.combine.specs.laws.Outcome.{refusal-keeps}
 use Rattle.combine.specs.laws.Run.{run-refused, run-stops}
+use Rattle.numbers.specs.Numbers.{isForeign}
 use Rattle.placing.specs.Sizes.{greatestUser, greatestEntry, entryOf}
 use Rattle.rules.specs.Calls.{Request, uses, write, next, Run, writes, fills}
 use Rattle.rules.specs.Headings.{Handle, value, handleOf}
@@ -63,14 +64,17 @@ module _ (s t : List ℕ) (u e : ℕ) where
   Same (done k) v = Unit {0}
 
   -- the rules of write and next begin with the pointer's gate
-  gate-same : (p : ℕ) (needs : Bool) (h : Handle) (v : Verdict Use) (f : Effect → ℕ × Lent) → Same (pointerGate p needs h (done 0)) (onDone f (onDone used (pointerGate p needs h v)))
+  gate-same : (signed : Bool) (p : ℕ) (needs : Bool) (h : Handle) (v : Verdict Use) (f : Effect → ℕ × Lent)
+      → Same (pointerGate signed p needs h (done 0)) (onDone f (onDone used (pointerGate signed p needs h v)))
   unfolding Same settle refuse_when_else_
-  gate-same p needs h v f = go (eqb (value h p) 0) (needs && not (h .permit))
+  gate-same signed p needs h v f = go (isForeign signed (h .species)) (eqb (value h p) 0) (needs && not (h .permit))
     where
-      go : (a b : Bool) → Same (refuse 4 when a else refuse 5 when b else done 0) (onDone f (onDone used (refuse 4 when a else refuse 5 when b else v)))
-      go true b = refl
-      go false true = refl
-      go false false = tt
+      go : (a b c : Bool)
+          → Same (refuse 19 when a else refuse 4 when b else refuse 5 when c else done 0) (onDone f (onDone used (refuse 19 when a else refuse 4 when b else refuse 5 when c else v)))
+      go true b c = refl
+      go false true c = refl
+      go false false true = refl
+      go false false false = tt
 
   entry-same : (a b c : Bool) (w : Said) (v : Verdict (ℕ × Lent)) → Same w v
       → Same (refuse 20 when not a else refuse 1 when b else refuse 2 when c else w) (refuse 20 when not a else refuse 1 when b else refuse 2 when c else v)
@@ -108,7 +112,7 @@ module _ (s t : List ℕ) (u e : ℕ) where
     where
       alike : (x : Option SegmentOpening) → Same (admits (writes p (n ∷ l)) (handleOf x)) (own (uses (write p n)) x)
       alike none = refl
-      alike (some x) = gate-same p true (x .handle) _ _
+      alike (some x) = gate-same false p true (x .handle) _ _
 
   pub fill-run-is-calls : (p n : ℕ) (l : List ℕ) → runOut (fills p (n ∷ l)) s t u e ≡ runOver (λ q x. requestOut q (x .store) (x .tables) u e) (requestsOf (fills p (n ∷ l))) (lent s t)
   unfolding Same settle nextRule
@@ -116,7 +120,7 @@ module _ (s t : List ℕ) (u e : ℕ) where
     where
       alike : (x : Option SegmentOpening) → Same (admits (fills p (n ∷ l)) (handleOf x)) (own (uses (next p)) x)
       alike none = refl
-      alike (some x) = gate-same p (eqb p 0) (x .handle) _ _
+      alike (some x) = gate-same false p (eqb p 0) (x .handle) _ _
 
 -- ---- a promise that is an equation of what a run hands over "admits one outcome"
 

@@ -10,7 +10,7 @@ use Rattle.combine.specs.laws.Below.{not-both}
 use Rattle.combine.specs.Verdict.{Verdict, done, onDone, refuse_when_else_}
 use Rattle.combine.specs.Outcome.{outcomeOf, settle}
 use Rattle.placing.specs.Sizes.{greatestUser, greatestEntry, entryOf, tablesLength}
-use Rattle.rules.specs.Calls.{Act, rename, reset, newPointer, deletePointer, write, next, prev, askSpecies, askClaim, askPermit, askSymbol, askBegin, askEnd, askValue, uses}
+use Rattle.rules.specs.Calls.{Act, rename, reset, newPointer, deletePointer, write, next, prev, writeSigned, nextSigned, prevSigned, askSpecies, askClaim, askPermit, askSymbol, askBegin, askEnd, askValue, uses}
 use Rattle.rules.specs.Headings.{Handle}
 use Rattle.rules.specs.Effects.{stays, plain, Use, does}
 use Rattle.rules.specs.Access.{newPointerRule, deletePointerRule, valueRule, renameRule, asked, acting}
@@ -37,6 +37,9 @@ leavesContent (deletePointer p) = true
 leavesContent (write p n) = false
 leavesContent (next p) = false
 leavesContent (prev p) = false
+leavesContent (writeSigned p z) = false
+leavesContent (nextSigned p) = false
+leavesContent (prevSigned p) = false
 leavesContent askSpecies = true
 leavesContent askClaim = true
 leavesContent askPermit = true
@@ -70,6 +73,9 @@ module _ (o : Opening) where
   leaves-acting (write p n) takes room q = absurd (not-both q refl)
   leaves-acting (next p) takes room q = absurd (not-both q refl)
   leaves-acting (prev p) takes room q = absurd (not-both q refl)
+  leaves-acting (writeSigned p z) takes room q = absurd (not-both q refl)
+  leaves-acting (nextSigned p) takes room q = absurd (not-both q refl)
+  leaves-acting (prevSigned p) takes room q = absurd (not-both q refl)
   leaves-acting askSpecies takes room q = leaving _ _ alike
   leaves-acting askClaim takes room q = leaving _ _ alike
   leaves-acting askPermit takes room q = leaving _ _ alike

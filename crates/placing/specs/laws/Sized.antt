@@ -28,7 +28,8 @@ sized (suc (suc zero)) h = record { perCell = 8; some = lit≤ tt; positive = li
 sized (suc (suc (suc zero))) h = record { perCell = 4; some = lit≤ tt; positive = lit≤ tt; many = lit≤ tt; few = lit≤ tt; whole = refl; full = refl }
 sized (suc (suc (suc (suc zero)))) h = record { perCell = 2; some = lit≤ tt; positive = lit≤ tt; many = lit≤ tt; few = lit≤ tt; whole = refl; full = refl }
 sized (suc (suc (suc (suc (suc zero))))) h = record { perCell = 1; some = lit≤ tt; positive = lit≤ tt; many = lit≤ tt; few = lit≤ tt; whole = refl; full = refl }
-sized (suc (suc (suc (suc (suc (suc s)))))) h = absurd (omega arith)
+sized (suc (suc (suc (suc (suc (suc zero)))))) h = record { perCell = 2; some = lit≤ tt; positive = lit≤ tt; many = lit≤ tt; few = lit≤ tt; whole = refl; full = refl }
+sized (suc (suc (suc (suc (suc (suc (suc s))))))) h = absurd (omega arith)
 
 module _ (s : ℕ) (h : s ≤ greatestSpecies) where
   pub elements-many : leastElements ≤ elementsOf s

@@ -9,7 +9,7 @@ use lib.Dec.{T, eqb}
 use Rattle.combine.specs.Verdict.{Verdict}
 use Rattle.combine.specs.laws.SameBut.{SameBut, keep, skip}
 use Rattle.names.specs.Names.{nameOf}
-use Rattle.rules.specs.Calls.{Act, rename, reset, newPointer, deletePointer, write, next, prev, askSpecies, askClaim, askPermit, askSymbol, askBegin, askEnd, askValue}
+use Rattle.rules.specs.Calls.{Act, rename, reset, newPointer, deletePointer, write, next, prev, writeSigned, nextSigned, prevSigned, askSpecies, askClaim, askPermit, askSymbol, askBegin, askEnd, askValue}
 use Rattle.rules.specs.Headings.{Handle, value}
 use Rattle.rules.specs.Effects.{Use, does}
 use Rattle.rules.specs.Access.{writeRule, nextRule, prevRule, newPointerRule, deletePointerRule, valueRule, renameRule, acting}
@@ -37,20 +37,22 @@ module _ (P Q : ℕ → Type 0) (h : Handle) (q : Option ℕ) (takes : ℕ → B
   abbrev Same : Verdict Use → Verdict Use → Type 0
   Same = SameBut P Q (SameUse h q)
 
-  write-same : (p n : ℕ) → Same (writeRule p n takes room h) (writeRule p n takes room' (placed h q))
+  write-same : (p : ℕ) (signed wide : Bool) (n : ℕ) → Same (writeRule p signed wide n takes room h) (writeRule p signed wide n takes room' (placed h q))
   unfolding writeRule
-  write-same p n =
-      keep P Q _ 4 _ _ _ _ refl (λ t. keep P Q _ 5 _ _ _ _ refl (λ t. keep P Q _ 6 _ _ _ _ refl (λ t. keep P Q _ 7 _ _ _ _ refl (λ t. keep P Q _ 10 _ _ _ _ refl (λ t.
-      keep P Q _ 8 _ _ _ _ refl (λ t.
-      skip P Q _ 9 _ _ _ _ (λ k. absurd (here k)) (λ t k. no-less-room (not (eqb p 0) && takes (value h p)) room room' (there k) t) (λ t u. (refl, refl))))))))
+  write-same p signed wide n =
+      keep P Q _ 19 _ _ _ _ refl (λ t. keep P Q _ 4 _ _ _ _ refl (λ t. keep P Q _ 5 _ _ _ _ refl (λ t. keep P Q _ 6 _ _ _ _ refl (λ t. keep P Q _ 7 _ _ _ _ refl (λ t.
+      keep P Q _ 23 _ _ _ _ refl (λ t. keep P Q _ 10 _ _ _ _ refl (λ t. keep P Q _ 8 _ _ _ _ refl (λ t.
+      skip P Q _ 9 _ _ _ _ (λ k. absurd (here k)) (λ t k. no-less-room (not (eqb p 0) && takes (value h p)) room room' (there k) t) (λ t u. (refl, refl))))))))))
 
-  next-same : (p : ℕ) → Same (nextRule p h) (nextRule p (placed h q))
+  next-same : (signed : Bool) (p : ℕ) → Same (nextRule signed p h) (nextRule signed p (placed h q))
   unfolding nextRule
-  next-same p = keep P Q _ 4 _ _ _ _ refl (λ t. keep P Q _ 5 _ _ _ _ refl (λ t. keep P Q _ 6 _ _ _ _ refl (λ t. keep P Q _ 7 _ _ _ _ refl (λ t. (refl, refl)))))
+  next-same signed p =
+      keep P Q _ 19 _ _ _ _ refl (λ t. keep P Q _ 4 _ _ _ _ refl (λ t. keep P Q _ 5 _ _ _ _ refl (λ t. keep P Q _ 6 _ _ _ _ refl (λ t. keep P Q _ 7 _ _ _ _ refl (λ t. (refl, refl))))))
 
-  prev-same : (p : ℕ) → Same (prevRule p h) (prevRule p (placed h q))
+  prev-same : (signed : Bool) (p : ℕ) → Same (prevRule signed p h) (prevRule signed p (placed h q))
   unfolding prevRule
-  prev-same p = keep P Q _ 4 _ _ _ _ refl (λ t. keep P Q _ 5 _ _ _ _ refl (λ t. keep P Q _ 6 _ _ _ _ refl (λ t. keep P Q _ 7 _ _ _ _ refl (λ t. (refl, refl)))))
+  prev-same signed p =
+      keep P Q _ 19 _ _ _ _ refl (λ t. keep P Q _ 4 _ _ _ _ refl (λ t. keep P Q _ 5 _ _ _ _ refl (λ t. keep P Q _ 6 _ _ _ _ refl (λ t. keep P Q _ 7 _ _ _ _ refl (λ t. (refl, refl))))))
 
   new-pointer-same : (p : ℕ) → Same (newPointerRule p h) (newPointerRule p (placed h q))
   unfolding newPointerRule
@@ -73,9 +75,12 @@ module _ (P Q : ℕ → Type 0) (h : Handle) (q : Option ℕ) (takes : ℕ → B
   acting-same reset = (refl, refl)
   acting-same (newPointer p) = new-pointer-same p
   acting-same (deletePointer p) = delete-pointer-same p
-  acting-same (write p n) = write-same p n
-  acting-same (next p) = next-same p
-  acting-same (prev p) = prev-same p
+  acting-same (write p n) = write-same p false _ n
+  acting-same (next p) = next-same false p
+  acting-same (prev p) = prev-same false p
+  acting-same (writeSigned p z) = write-same p true _ _
+  acting-same (nextSigned p) = next-same true p
+  acting-same (prevSigned p) = prev-same true p
   acting-same askSpecies = (refl, refl)
   acting-same askClaim = (refl, refl)
   acting-same askPermit = (refl, refl)

@@ -10,7 +10,7 @@ use Rattle.combine.specs.laws.Verdict.{Refuses, refuses, refuses-onDone}
 use Rattle.placing.specs.Sizes.{entryOf}
 use Rattle.names.specs.Names.{nameOf}
 use Rattle.rules.specs.Calls.{Way, new, work, read, Request, opens, closes, abandons, uses, Run, writes, fills}
-use Rattle.rules.specs.Calls.{Act, rename, reset, newPointer, deletePointer, write, next, prev, askSpecies, askClaim, askPermit, askSymbol, askBegin, askEnd, askValue}
+use Rattle.rules.specs.Calls.{Act, rename, reset, newPointer, deletePointer, write, next, prev, writeSigned, nextSigned, prevSigned, askSpecies, askClaim, askPermit, askSymbol, askBegin, askEnd, askValue}
 use Rattle.rules.specs.Headings.{Heading, Handle, Open, headOf, handleOf}
 use Rattle.rules.specs.Effects.{used, Others}
 use Rattle.rules.specs.Access.{writeRule, nextRule, prevRule, newPointerRule, deletePointerRule, valueRule, renameRule, acting}
@@ -49,16 +49,31 @@ module _ {S : Type 0} (v : Verdict S) (h : Refuses Not12 v) where
 
 -- ---- acts
 
+write-spares : (p : ℕ) (signed wide : Bool) (n : ℕ) (takes : ℕ → Bool) (room : Bool) (h : Handle) → Refuses Not12 (writeRule p signed wide n takes room h)
+unfolding writeRule
+write-spares p signed wide n takes room h =
+    spares 19 _ _ tt (spares 4 _ _ tt (spares 5 _ _ tt (spares 6 _ _ tt (spares 7 _ _ tt (spares 23 _ _ tt (spares 10 _ _ tt (spares 8 _ _ tt (spares 9 _ _ tt tt))))))))
+
+next-spares : (signed : Bool) (p : ℕ) (h : Handle) → Refuses Not12 (nextRule signed p h)
+unfolding nextRule
+next-spares signed p h = spares 19 _ _ tt (spares 4 _ _ tt (spares 5 _ _ tt (spares 6 _ _ tt (spares 7 _ _ tt tt))))
+
+prev-spares : (signed : Bool) (p : ℕ) (h : Handle) → Refuses Not12 (prevRule signed p h)
+unfolding prevRule
+prev-spares signed p h = spares 19 _ _ tt (spares 4 _ _ tt (spares 5 _ _ tt (spares 6 _ _ tt (spares 7 _ _ tt tt))))
+
 acting-spares : (a : Act) (takes : ℕ → Bool) (room : Bool) (h : Handle) → Refuses Not12 (acting a takes room h)
-unfolding renameRule newPointerRule deletePointerRule writeRule nextRule prevRule valueRule
+unfolding renameRule newPointerRule deletePointerRule valueRule
 acting-spares (rename bytes) takes room h = spares 5 _ _ tt tt
 acting-spares reset takes room h = tt
 acting-spares (newPointer p) takes room h = spares 4 _ _ tt (spares 21 _ _ tt tt)
 acting-spares (deletePointer p) takes room h = spares 4 _ _ tt tt
-acting-spares (write p n) takes room h =
-    spares 4 _ _ tt (spares 5 _ _ tt (spares 6 _ _ tt (spares 7 _ _ tt (spares 10 _ _ tt (spares 8 _ _ tt (spares 9 _ _ tt tt))))))
-acting-spares (next p) takes room h = spares 4 _ _ tt (spares 5 _ _ tt (spares 6 _ _ tt (spares 7 _ _ tt tt)))
-acting-spares (prev p) takes room h = spares 4 _ _ tt (spares 5 _ _ tt (spares 6 _ _ tt (spares 7 _ _ tt tt)))
+acting-spares (write p n) takes room h = write-spares p false _ n takes room h
+acting-spares (next p) takes room h = next-spares false p h
+acting-spares (prev p) takes room h = prev-spares false p h
+acting-spares (writeSigned p z) takes room h = write-spares p true _ _ takes room h
+acting-spares (nextSigned p) takes room h = next-spares true p h
+acting-spares (prevSigned p) takes room h = prev-spares true p h
 acting-spares askSpecies takes room h = tt
 acting-spares askClaim takes room h = tt
 acting-spares askPermit takes room h = tt
@@ -105,8 +120,8 @@ ruled-spares L r u h x = rule-spares r u (map headOf (h .records)) (handleOf x) 
 admits-spares : (r : Run) (x : Option Handle) → Refuses Not12 (admits r x)
 admits-spares (writes p l) none = tt
 admits-spares (fills p l) none = tt
-admits-spares (writes p l) (some h) = spares 4 _ _ tt (spares 5 _ _ tt tt)
-admits-spares (fills p l) (some h) = spares 4 _ _ tt (spares 5 _ _ tt tt)
+admits-spares (writes p l) (some h) = spares 19 _ _ tt (spares 4 _ _ tt (spares 5 _ _ tt tt))
+admits-spares (fills p l) (some h) = spares 19 _ _ tt (spares 4 _ _ tt (spares 5 _ _ tt tt))
 
 pub admission-spares : {C B : Type 0} (sound : Bool) (r : Run) (u e : ℕ) (h : House C B) → Refuses Not12 (admission sound r u e h)
 admission-spares sound r u e h =

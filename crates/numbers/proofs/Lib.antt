@@ -1,0 +1,2 @@
+-- What the code of `numbers` is. Assumes nothing.
+pub mod Laws
