@@ -15,7 +15,7 @@ use Rattle.model.specs.Step.{Report}
 use Rattle.demands.specs.History.{toldAll}
 use Rattle.demands.specs.Hearing.{heard}
 use Rattle.demands.specs.Abandoning.{Story, whole, rest, wholeFates, restFates, NoTrace}
-use Rattle.examples.specs.Examples.{answersOn, runsOn}
+use Rattle.examples.specs.Holding.{answersOn, runsOn}
 use Rattle.proof_examples.specs.Fresh.{nothingThere}
 use Rattle.proof_examples.specs.Known.{noLookb, answersKnown, answers-known, runsKnown, runs-known}
 use Rattle.proof_demand3.specs.Started.{startedOver, started-sound, started-known}

@@ -29,7 +29,8 @@ use Rattle.proof_examples.specs.Known.{answersKnown}
 use Rattle.proof_demand3.specs.Started.{startedOver, started-sound, started-state}
 use Rattle.proof_demand3.specs.Answers.{answers-started, Passed, answered-otherwise, numbers-differ}
 use Rattle.proof_demand3.specs.ButOne.{AbandonedThenLoaded}
-use Rattle.examples.specs.Examples.{answersOn, bytesOfA, makesFileA, imageWithA}
+use Rattle.examples.specs.Holding.{answersOn}
+use Rattle.examples.specs.Examples.{bytesOfA, makesFileA, imageWithA}
 use Rattle.proof_examples.specs.OnSegments.{stateAfter, goesOn, state-known}
 use Rattle.proof_examples.specs.Worked.{houseWithA}
 use Rattle.proof_demand3.specs.SavedImage.{cells-after, buffer, image-sound, image-says}

@@ -11,7 +11,8 @@ use Rattle.placing.specs.Sizes.{segmentCells}
 use Rattle.rules.specs.Calls.{new, write, opens, uses, writes, on, runs}
 use Rattle.rules.specs.Runs.{noRun}
 use Rattle.demands.specs.Abandoning.{quiet, Story, whole, rest, NoTrace}
-use Rattle.examples.specs.Examples.{answersOn, runsOn, told}
+use Rattle.examples.specs.Holding.{answersOn, runsOn}
+use Rattle.examples.specs.Examples.{told}
 use Rattle.proof_examples.specs.Fresh.{nothingThere}
 use Rattle.proof_examples.specs.Known.{answersKnown, runsKnown}
 use Rattle.proof_demand3.specs.Started.{startedOver}

@@ -1,15 +1,17 @@
 -- A story to which demand 3 is applied: user 2's file of 64 elements is opened for work, its first element is replaced (the record's segment is
--- copied), a run of appends begins another stretch, and it is renamed, while user 3 makes a file, writes a run there and closes it; then it is
--- abandoned, and the files are read, user 3's by a run that comes to its end. Assumes nothing.
+-- copied), a run of appends begins another stretch, and it is renamed, while user 3 makes a file, writes a run there and closes it, and another of
+-- temperatures, where -5 is written and 40,000 is refused; then it is abandoned, and the files are read, user 3's by a run that comes to its end.
+-- Assumes nothing.
 use Prim.Native.Nat.{ℕ}
 use mathlib.Core.Path.{_≡_, refl, sym, subst}
 use mathlib.Core.Bool.{true, false}
 use mathlib.Core.List.{List, [], _∷_, _++_}
 use lib.Dec.{T}
+use lib.IntN.{pos, negsuc}
 use lib.ListN.{length, replicate}
-use Rattle.combine.specs.Verdict.{done, isDone}
+use Rattle.combine.specs.Verdict.{done, refused, isDone}
 use Rattle.placing.specs.Sizes.{tablesLength}
-use Rattle.rules.specs.Calls.{new, work, read, rename, reset, write, next, opens, closes, uses, fresh, count, writes, fills, Call, starts, asks, on, runs}
+use Rattle.rules.specs.Calls.{new, work, read, rename, reset, write, next, writeSigned, nextSigned, opens, closes, uses, fresh, count, writes, fills, Call, starts, asks, on, runs}
 use Rattle.cells.specs.Outcomes.{lent}
 use Rattle.model.specs.Model.{Model}
 use Rattle.model.specs.Step.{step}
@@ -19,7 +21,7 @@ use Rattle.proof_demand3.specs.Premises.{quietb, abandoned-known}
 use Rattle.proof_demand3.specs.Demand3.{demand3}
 use Rattle.proof_examples.specs.Fresh.{nothingThere, fresh-leaves-sound, fresh-leaves-nothing}
 use Rattle.proof_examples.specs.Known.{blind, answersKnown, answers-after, knownAfter}
-use Rattle.examples.specs.Examples.{AnswersSo}
+use Rattle.examples.specs.Holding.{AnswersSo}
 
 -- ---- the story
 
@@ -39,9 +41,9 @@ storyAfter before = record {
   user = 2;
   entry = 0;
   way = work fileA;
-  between = on 2 0 (uses reset) ∷ on 2 0 (uses (write 2 99)) ∷ on 3 1 (opens (new 3)) ∷ runs 2 0 (writes 1 (7 ∷ 8 ∷ [])) ∷ on 3 1 (uses (write 1 6)) ∷ runs 3 1 (writes 1 (4 ∷ 300 ∷ []))
-      ∷ asks (count 3) ∷ on 2 0 (uses (rename (98 ∷ []))) ∷ on 3 1 (uses (rename fileC)) ∷ on 3 1 (closes true) ∷ [];
-  later = on 2 1 (opens (read fileA)) ∷ on 2 1 (uses (next 2)) ∷ on 2 0 (opens (read fileC)) ∷ runs 2 0 (fills 2 (replicate 5 0)) ∷ asks (count 2) ∷ [];
+  between = on 2 0 (uses reset) ∷ on 2 0 (uses (write 2 99)) ∷ on 3 1 (opens (new 3)) ∷ runs 2 0 (writes 1 (7 ∷ 8 ∷ [])) ∷ on 3 1 (uses (write 1 6)) ∷ runs 3 1 (writes 1 (4 ∷ 200 ∷ []))
+      ∷ on 3 2 (opens (new 6)) ∷ on 3 2 (uses (writeSigned 1 (negsuc 4))) ∷ on 3 2 (uses (writeSigned 1 (pos 40000))) ∷ asks (count 3) ∷ on 2 0 (uses (rename (98 ∷ []))) ∷ on 3 1 (uses (rename fileC)) ∷ on 3 1 (closes true) ∷ [];
+  later = on 2 1 (opens (read fileA)) ∷ on 2 1 (uses (next 2)) ∷ on 2 0 (opens (read fileC)) ∷ runs 2 0 (fills 2 (replicate 5 0)) ∷ on 3 2 (uses (nextSigned 2)) ∷ asks (count 2) ∷ [];
 }
 
 -- ---- on the state as its users know it, after a fresh start over 1,024 cells
@@ -56,10 +58,11 @@ quietly = tt
 
 -- ---- on any cells
 
--- what it tells is done: of 16 segments four are taken before the abandonment, and two after it, when the first element is 5 as it was
+-- what it tells is done, but for 40,000: of 16 segments five are taken before the abandonment, and three after it, when the first element is 5 as it
+-- was; 65,531 are the bits of -5
 pub answered : AnswersSo 1024 (whole (storyAfter (starts fresh ∷ filled)))
     (replicate 72 (done 0)
-    ++ (done 2 ∷ done 0 ∷ done 2 ∷ done 12 ∷ done 0 ∷ done 0 ∷ done 0 ∷ done 0 ∷ done 0 ∷ done 5 ∷ done 0 ∷ done 3 ∷ done 14 ∷ []))
+    ++ (done 2 ∷ done 0 ∷ done 2 ∷ done 0 ∷ done 0 ∷ refused 23 ∷ done 11 ∷ done 0 ∷ done 0 ∷ done 0 ∷ done 0 ∷ done 0 ∷ done 5 ∷ done 0 ∷ done 3 ∷ done 65531 ∷ done 13 ∷ []))
 unfolding answersKnown
 answered = answers-after 1024 _ _ refl tt refl
 

@@ -3,11 +3,13 @@ use Prim.Native.Nat.{ℕ}
 use mathlib.Core.Path.{_≡_, refl, ap, ap₂, _∙_}
 use mathlib.Core.Bool.{Bool, true, not, _&&_, _||_}
 use mathlib.Core.Option.{none, some}
-use mathlib.Core.List.{List, [], _∷_}
+use mathlib.Core.List.{List, [], _∷_, map}
 use lib.Dec.{T, leb}
-use Rattle.combine.specs.Verdict.{Said, done, refuse_when_else_}
+use lib.IntN.{ℤ, pos}
+use Rattle.combine.specs.Verdict.{Verdict, Said, done, onDone, refuse_when_else_}
 use Rattle.combine.specs.Outcome.{Outcome, settle}
 use Rattle.combine.specs.Run.{runOver}
+use Rattle.numbers.specs.Numbers.{signedOf, signedBits, outOfRange}
 use Rattle.names.specs.Names.{symbolsOf, nameOf, scratchName, isScratch}
 use Rattle.placing.specs.Placing.{stretchOf, offsetOf, heldOf, claimOf, slotOf}
 use Rattle.placing.specs.Sizes.{leastStore, widthOf, elementsOf}
@@ -27,7 +29,7 @@ use Rattle.demands.specs.Demands.{Sound}
 use Rattle.demands.specs.Hearing.{isArranging}
 use Rattle.demands.specs.Abandoning.{isLoad}
 use Rattle.proof_demand2.specs.Demand2.{told-known, after-known}
-use Rattle.examples.specs.Examples.{answersOn, AnswersSo, runsOn, TellsSo}
+use Rattle.examples.specs.Holding.{answersOn, AnswersSo, GivesSo, runsOn, TellsSo}
 use Rattle.proof_examples.specs.Fresh.{nothingThere, fresh-is-done, fresh-leaves-sound, fresh-leaves-nothing}
 
 -- the cells are not looked at
@@ -68,7 +70,7 @@ module _ (c : Call) (x : Lent) (s : Sound x) (n : T (not (looks c))) where
 
 -- what unfolds this unfolds every definition that the answers rest on
 unfoldable pub answersKnown : List Call → Model → List Said
-unfolding refuse_when_else_ settle symbolsOf nameOf scratchName isScratch stretchOf offsetOf heldOf claimOf slotOf widthOf elementsOf writeRule nextRule prevRule newPointerRule valueRule renameRule lookUp openNew openedAs openOld headed closeRule userGate entryGate startGate imageGate free requestOnModel runOver runOnModel
+unfolding refuse_when_else_ settle signedBits outOfRange symbolsOf nameOf scratchName isScratch stretchOf offsetOf heldOf claimOf slotOf widthOf elementsOf writeRule nextRule prevRule newPointerRule valueRule renameRule lookUp openNew openedAs openOld headed closeRule userGate entryGate startGate imageGate free requestOnModel runOver runOnModel
 answersKnown [] m = []
 answersKnown (c ∷ cs) m = step blind c m .answer ∷ answersKnown cs (step blind c m .after)
 
@@ -117,6 +119,12 @@ answers-after n calls said large none-loaded e s t cells long =
     ap₂ {C = List Said} (λ a l. a ∷ l) (fresh-is-done s t n cells large long)
     (answers-known calls (afterCall (starts fresh) (lent s t)) (fresh-leaves-sound s t n cells large long) none-loaded
     ∙ ap (answersKnown calls) (fresh-leaves-nothing s t n cells large long) ∙ e)
+
+pub gives-after : (n : ℕ) (calls : List Call) (given : List (Verdict ℤ)) → leb 64 n ≡ true → T (noLookb calls) → map (onDone signedOf) (answersKnown calls (nothingThere n)) ≡ given
+    → GivesSo n (starts fresh ∷ calls) (done (pos 0) ∷ given)
+unfolding GivesSo AnswersSo signedOf
+gives-after n calls given large none-loaded e s t cells long =
+    ap (map (onDone signedOf)) (answers-after n calls (answersKnown calls (nothingThere n)) large none-loaded refl s t cells long) ∙ ap (λ (l : List (Verdict ℤ)). done (pos 0) ∷ l) e
 
 pub runs-after : (n : ℕ) (calls : List Call) (told : List RunTold) → leb leastStore n ≡ true → T (noLookb calls) → runsKnown calls (nothingThere n) ≡ told
     → TellsSo n (starts fresh ∷ calls) (noRun ∷ told)

@@ -31,7 +31,7 @@ use Rattle.proof_images.specs.Done.{save-done}
 use Rattle.proof_calls_sound.specs.Keeps.{sound-final}
 use Rattle.demands.specs.History.{afterCall, final}
 use Rattle.demands.specs.Demands.{Sound}
-use Rattle.examples.specs.Examples.{SavesAfter}
+use Rattle.examples.specs.Holding.{SavesAfter}
 use Rattle.proof_examples.specs.Fresh.{fresh-leaves-sound, fresh-leaves-state}
 use Rattle.proof_examples.specs.OnSegments.{stateAfter, goesOn, state-known}
 

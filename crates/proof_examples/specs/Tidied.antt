@@ -21,7 +21,7 @@ use Rattle.proof_moves.specs.Proved.{tidy-keeps}
 use Rattle.demands.specs.History.{outcomeOn, afterCall, final}
 use Rattle.demands.specs.Demands.{Sound}
 use Rattle.demands.specs.Tidying.{tidying}
-use Rattle.examples.specs.Examples.{answersOn, AnswersSo}
+use Rattle.examples.specs.Holding.{answersOn, AnswersSo}
 use Rattle.proof_examples.specs.Fresh.{nothingThere, fresh-is-done, fresh-leaves-sound, fresh-leaves-nothing, fresh-leaves-state}
 use Rattle.proof_examples.specs.Known.{noLookb, answersKnown, answers-known, knownAfter, final-known}
 use Rattle.proof_examples.specs.Saved.{Leads, after-says}

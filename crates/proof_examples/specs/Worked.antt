@@ -7,6 +7,7 @@ use mathlib.Core.Option.{none, some}
 use mathlib.Core.List.{[], _∷_}
 use lib.ListN.{replicate}
 use Rattle.combine.specs.Below.{countBelow}
+use Rattle.numbers.specs.Numbers.{signedOf}
 use Rattle.names.specs.Names.{symbolsOf, nameOf}
 use Rattle.packing.specs.Packing.{putField, putBits}
 use Rattle.placing.specs.Placing.{stretchOf, offsetOf, cellOf, bitOf, heldOf, claimOf}
@@ -16,9 +17,10 @@ use Rattle.rules.specs.Headings.{filing}
 use Rattle.rules.specs.House.{house, freshHouse}
 use Rattle.segments.specs.Free.{SegmentRecord, SegmentHouse}
 use Rattle.segments.specs.Moves.{isListed, listedCount, tidyCount}
-use Rattle.examples.specs.Examples.{Holds, AllHold, lift7, lift, ten, loses, claims, appends, ownPointer, savedFresh, bytesOfA, makesFileA, imageWithA, savedFile, givenUp, runsAnswered, runsTold, startsAtTheEnd, bytesOfB, looksAbsent, removesA, tidies, worked}
+use Rattle.examples.specs.Holding.{Holds, AllHold}
+use Rattle.examples.specs.Examples.{lift7, lift, ten, notCut, claims, appends, ownPointer, savedFresh, bytesOfA, makesFileA, imageWithA, savedFile, givenUp, runsAnswered, runsTold, startsAtTheEnd, bytesOfB, looksAbsent, removesA, tidies, degrees, worked}
 use Rattle.proof_examples.specs.OnSegments.{stateAfter}
-use Rattle.proof_examples.specs.Known.{answersKnown, answers-after, runsKnown, runs-after}
+use Rattle.proof_examples.specs.Known.{answersKnown, answers-after, gives-after, runsKnown, runs-after}
 use Rattle.proof_examples.specs.Saved.{imageBy, Leads, saves-after}
 use Rattle.proof_examples.specs.Tidied.{answers-tidied}
 
@@ -42,9 +44,9 @@ claims-holds = refl
 
 -- ---- answers
 
-loses-holds : Holds loses
+not-cut-holds : Holds notCut
 unfolding answersKnown
-loses-holds = answers-after segmentCells _ _ refl tt refl
+not-cut-holds = answers-after segmentCells _ _ refl tt refl
 
 appends-holds : Holds appends
 unfolding answersKnown
@@ -65,6 +67,10 @@ starts-at-the-end-holds = answers-after (segmentCells * 2) _ _ refl tt refl
 looks-absent-holds : Holds looksAbsent
 unfolding answersKnown
 looks-absent-holds = answers-after (segmentCells * 2) _ _ refl tt refl
+
+degrees-hold : Holds degrees
+unfolding answersKnown signedOf
+degrees-hold = gives-after segmentCells _ _ refl tt refl
 
 -- ---- runs
 
@@ -128,4 +134,4 @@ tidies-holds = answers-tidied (segmentCells * 3) removesA _ houseWithB refl lead
 
 pub worked-hold : AllHold worked
 worked-hold =
-    (lift7-holds, (lift-holds, (ten-holds, (loses-holds, (claims-holds, (appends-holds, (own-pointer-holds, (saved-fresh-holds, (saved-file-holds, (given-up-holds, (runs-answered-holds, (runs-told-holds, (starts-at-the-end-holds, (looks-absent-holds, (tidies-holds, tt)))))))))))))))
+    (lift7-holds, (lift-holds, (ten-holds, (not-cut-holds, (claims-holds, (appends-holds, (own-pointer-holds, (saved-fresh-holds, (saved-file-holds, (given-up-holds, (runs-answered-holds, (runs-told-holds, (starts-at-the-end-holds, (looks-absent-holds, (tidies-holds, (degrees-hold, tt))))))))))))))))

@@ -137,12 +137,12 @@ module _ (m : State) (sound : SoundHouse (m .house)) (fits : segmentCells * (m .
     used-seen w (moves t p v q p0 p1 l r k) = still-seen t (moved (x .handle) p v) stays refl refl k (moved-seen st h (userOf i) x before p v p0 p1)
     used-seen w (first t p l k) = still-seen t (moved (x .handle) 0 (value (x .handle) 0 + 1)) firstLeaves refl refl k (first-seen st h (userOf i) x before l)
     used-seen w (last t p l k) = still-seen t (moved (x .handle) 1 (value (x .handle) 1 - 1)) lastLeaves refl refl k (last-seen st h (userOf i) x before l)
-    used-seen w (replaces p n c p0 p1 l r room) =
+    used-seen w (replaces p n c p0 p1 l r room b) =
         let v = value (x .handle) p in
-        stores-seen v n l (omega arith) room (moved (x .handle) p (v + 1)) refl (replaced-seen st h sound fits i x ix v n l (omega arith) room p p0 p1 r)
-    used-seen w (appends n c l r d room) =
+        stores-seen v n l (omega arith) room (moved (x .handle) p (v + 1)) refl (replaced-seen st h sound fits i x ix v n l (omega arith) room b p p0 p1 r)
+    used-seen w (appends n c l r d room b) =
         let v = value (x .handle) 1 in
-        stores-seen v n l (le-refl v) room (moved (x .handle) 1 (v + 1)) refl (appended-seen st h sound fits i x ix v n l (le-refl v) room refl)
+        stores-seen v n l (le-refl v) room (moved (x .handle) 1 (v + 1)) refl (appended-seen st h sound fits i x ix v n l (le-refl v) room b refl)
 
     filed-seen : (u : ℕ) (public : Bool) (r : Heading) → r ≡ headed public u (x .handle)
         → viewPlace st (some (filing r (x .content))) ≡ some (filing r (elementsIn st (x .content) (x .handle .species) (value (x .handle) 0) (value (x .handle) 1)))

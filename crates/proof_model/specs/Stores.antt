@@ -1,5 +1,6 @@
 -- A number is stored at a position: the cells that change, and what users know of the opening afterwards. Assumes nothing.
-use Prim.Native.Nat.{ℕ, _+_, _-_, _*_, _%_, _^_, _≤_, _<_}
+use Prim.Native.Nat.{ℕ, _+_, _-_, _*_, _^_, _≤_, _<_}
+use native.Mathlib.Nat.{mod-eq-of-lt}
 use native.Mathlib.Omega.{arith}
 use mathlib.Core.Path.{_≡_, refl, sym, ap, ap₂, _∙_}
 use mathlib.Core.Logic.{_≢_, ⊎-elim}
@@ -10,7 +11,7 @@ use lib.Dec.{T, not-T, nleb→lt, leb→le}
 use lib.ListN.{length, getD}
 use Rattle.combine.specs.Lists.{isIn, put}
 use Rattle.combine.specs.laws.Numbers.{eq-or-ne, le-or-lt}
-use Rattle.placing.specs.Sizes.{segmentCells, userOf, widthOf}
+use Rattle.placing.specs.Sizes.{segmentCells, greatestSpecies, userOf, widthOf}
 use Rattle.placing.specs.Placing.{segment, position, stretchOf, slotOf}
 use Rattle.placing.specs.laws.Sized.{stretch-mono}
 use Rattle.store.specs.Store.{elementAt, zeroed, copied, segmentOf, elementsIn}
@@ -48,7 +49,7 @@ module _ (st : List ℕ) (f g : ℕ) (ready : Within (segment g) st) where
   readied-outside false true m = copied-outside st (segment f) (segment g) (m tt) ready
   readied-outside false false m = λ k o. refl
 
-  readied-element : (a b : Bool) → T (not a) → Within (segment f) st → (T (not b) → g ≡ f) → (s : ℕ) → s ≤ 5 → (v : ℕ)
+  readied-element : (a b : Bool) → T (not a) → Within (segment f) st → (T (not b) → g ≡ f) → (s : ℕ) → s ≤ greatestSpecies → (v : ℕ)
       → elementAt (readied a b) s (segment g) (position v) ≡ elementAt st s (segment f) (position v)
   readied-element true b t m e s h v = absurd t
   readied-element false true t m e s h v = copied-element st (segment f) (segment g) m ready s h (position v)
@@ -118,10 +119,10 @@ module _ (st : List ℕ) (h : SegmentHouse) (sound : SoundHouse h) (fits : segme
 
   -- ---- the elements
 
-  new-element : elementIn stored listed species begin v ≡ n % 2 ^ widthOf species
-  new-element =
+  new-element : n < 2 ^ widthOf species → elementIn stored listed species begin v ≡ n
+  new-element small =
       ap (λ (g : ℕ). elementAt stored species (segment g) (position v)) (segment-put (x .content) species begin (slotIn (x .handle) v) goal near v refl)
-      ∙ put-same (prepared st h x v) species (before .file .species) (segment goal) (position v) n still-ready
+      ∙ put-same (prepared st h x v) species (before .file .species) (segment goal) (position v) n still-ready ∙ mod-eq-of-lt small
 
   in-place : T (not (lacks x v)) → T (not (sharesAt (h .records) x v)) → goal ≡ segmentAt x v
   unfolding target
@@ -169,16 +170,16 @@ module _ (st : List ℕ) (h : SegmentHouse) (sound : SoundHouse h) (fits : segme
       map-put (λ g. isIn g rsegs) (x .content) (slotIn (x .handle) v) goal
       ∙ ap (put (sharedWith rsegs (x .content)) (slotIn (x .handle) v)) (false-of (isIn goal rsegs) (not-shared (x .handle .place)))
 
-  pub replaced-seen : (p : ℕ) → p ≢ 0 → p ≢ 1 → v < end
+  pub replaced-seen : n < 2 ^ widthOf species → (p : ℕ) → p ≢ 0 → p ≢ 1 → v < end
       → let m = moved old p (v + 1) in bodySeen stored rsegs m (segmentsAfter h x m (stores v n)) ≡ bodyAfter (viewOpening st (h .records) x) m (stores v n)
-  replaced-seen p p0 p1 l =
+  replaced-seen small p p0 p1 l =
       let elements = ap₂ (elementsIn stored listed species) (value-else old p (v + 1) 0 (λ w. p0 (sym w))) (value-else old p (v + 1) 1 (λ w. p1 (sym w)))
-      ∙ elements-replaced st stored (x .content) listed species begin end v (n % 2 ^ widthOf species) low new-element other-elements l in
+      ∙ elements-replaced st stored (x .content) listed species begin end v n low (new-element small) other-elements l in
       λ k. record { elements = elements k; shared = flags k }
 
-  pub appended-seen : v ≡ end
+  pub appended-seen : n < 2 ^ widthOf species → v ≡ end
       → let m = moved old 1 (v + 1) in bodySeen stored rsegs m (segmentsAfter h x m (stores v n)) ≡ bodyAfter (viewOpening st (h .records) x) m (stores v n)
-  appended-seen q =
+  appended-seen small q =
       let elements = ap₂ (elementsIn stored listed species) (value-else old 1 (v + 1) 0 (λ w. omega arith)) (value-here old 1 (v + 1) (omega (arith, before .eight)))
-      ∙ elements-appended st stored (x .content) listed species begin end v (n % 2 ^ widthOf species) low new-element other-elements q in
+      ∙ elements-appended st stored (x .content) listed species begin end v n low (new-element small) other-elements q in
       λ k. record { elements = elements k; shared = flags k }

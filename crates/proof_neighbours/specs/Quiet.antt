@@ -65,8 +65,8 @@ use-place h takes room w (renames n p) = refl
 use-place h takes room w (moves c p v q p0 p1 l r k) = refl
 use-place h takes room w (first c p l k) = refl
 use-place h takes room w (last c p l k) = refl
-use-place h takes room w (replaces p n c p0 p1 l r k) = refl
-use-place h takes room w (appends n c l r d k) = refl
+use-place h takes room w (replaces p n c p0 p1 l r k b) = refl
+use-place h takes room w (appends n c l r d k b) = refl
 
 module _ (a : ℕ) (k : Files) (w : Known a k) (i : ℕ) where
   pub quiet-opens : (u : ℕ) (rs : List (Option Heading)) (o : Others) (x : Open Body) (f : Effect) → Opens u rs o f

@@ -8,9 +8,10 @@ use mathlib.Core.Bool.{Bool, true, false}
 use mathlib.Core.Option.{none}
 use mathlib.Core.List.{List, [], _∷_, _++_, map}
 use lib.Dec.{T}
+use lib.IntN.{negsuc}
 use lib.ListN.{getD, replicate}
 use Rattle.combine.specs.Verdict.{Said, done, refused}
-use Rattle.rules.specs.Calls.{new, work, read, rename, reset, newPointer, write, next, prev, askSpecies, askClaim, askPermit, askBegin, askEnd, askValue, opens, closes, abandons, uses}
+use Rattle.rules.specs.Calls.{new, work, read, rename, reset, newPointer, write, next, prev, writeSigned, prevSigned, askSpecies, askClaim, askPermit, askBegin, askEnd, askValue, opens, closes, abandons, uses}
 use Rattle.rules.specs.Calls.{save, count, writes, fills, Call, asks, on, runs}
 use Rattle.rules.specs.Runs.{noRun}
 use Rattle.model.specs.Model.{Model}
@@ -49,13 +50,13 @@ reads = on 0 2 (opens (read lift)) ∷ on 0 3 (opens (read lift)) ∷ runs 0 2 (
     ∷ on 0 2 (uses askBegin) ∷ on 0 2 (uses askPermit) ∷ on 0 2 (closes false) ∷ []
 
 abbrev errs : List Call
-errs = on 0 0 (opens (read spare)) ∷ on 0 0 (opens (work [])) ∷ on 0 0 (uses askSpecies) ∷ on 0 4 (uses askSpecies) ∷ on 0 0 (opens (new 6)) ∷ on 0 0 (opens (new 0)) ∷ on 0 0 (opens (new 0))
-    ∷ on 0 0 (uses (rename lift)) ∷ on 0 0 (closes false) ∷ on 0 0 abandons ∷ on 0 0 abandons ∷ []
+errs = on 0 0 (opens (read spare)) ∷ on 0 0 (opens (work [])) ∷ on 0 0 (uses askSpecies) ∷ on 0 4 (uses askSpecies) ∷ on 0 0 (opens (new 7)) ∷ on 0 0 (opens (new 6)) ∷ on 0 0 (opens (new 0))
+    ∷ on 0 0 (uses (writeSigned 1 (negsuc 4))) ∷ on 0 0 (uses (prevSigned 1)) ∷ on 0 0 (uses (rename lift)) ∷ on 0 0 (closes false) ∷ on 0 0 abandons ∷ on 0 0 abandons ∷ []
 
 -- ---- the others' calls, between these
 
 abbrev first : List Call
-first = on 1 0 (opens (new 5)) ∷ runs 1 0 (writes 1 (replicate 70 9)) ∷ on 1 0 (uses (rename lift)) ∷ on 1 0 (closes false) ∷ on 2 1 (opens (new 3)) ∷ on 2 1 (uses (write 1 300)) ∷ []
+first = on 1 0 (opens (new 5)) ∷ runs 1 0 (writes 1 (replicate 70 9)) ∷ on 1 0 (uses (rename lift)) ∷ on 1 0 (closes false) ∷ on 2 1 (opens (new 3)) ∷ on 2 1 (uses (write 1 200)) ∷ []
 
 abbrev second : List Call
 second = on 2 1 (uses (rename lift)) ∷ on 2 1 (closes false) ∷ on 1 0 (opens (work lift)) ∷ on 1 0 (uses (next 0)) ∷ asks (save []) ∷ asks (count 1) ∷ []
@@ -101,14 +102,14 @@ module _ (cs : List Call) (n : T (noLookb cs)) (p : T (allApart hindersTold open
 pub told-the-same : heardBy 0 among (startedOver 1024) ≡ heardBy 0 alone (startedOver 1024)
 told-the-same = neighbours 0 among alone (startedOver 1024) same-calls (quiet-started 1024 refl 0) (premises among none-loaded private-among) (premises alone tt private-alone)
 
--- ---- what he hears, whatever the others did: 35 answers, without his count, and the lists of his runs
+-- ---- what he hears, whatever the others did: 37 answers, without his count, and the lists of his runs; 65,531 are the bits of -5
 
 abbrev answers : List Said
 answers = done 0 ∷ done 4 ∷ done 5
     ∷ done 0 ∷ done 64 ∷ done 0
     ∷ done 0 ∷ refused 14 ∷ done 401 ∷ done 2 ∷ done 0 ∷ done 0 ∷ done 3 ∷ done 3 ∷ done 0
     ∷ done 0 ∷ done 0 ∷ done 5 ∷ refused 7 ∷ done 406 ∷ refused 5 ∷ done 2 ∷ done 0 ∷ done 0
-    ∷ refused 11 ∷ refused 15 ∷ refused 2 ∷ refused 2 ∷ refused 19 ∷ done 0 ∷ refused 3 ∷ done 0 ∷ refused 16 ∷ done 0 ∷ refused 2 ∷ []
+    ∷ refused 11 ∷ refused 15 ∷ refused 2 ∷ refused 2 ∷ refused 19 ∷ done 0 ∷ refused 3 ∷ done 0 ∷ done 65531 ∷ done 0 ∷ refused 16 ∷ done 0 ∷ refused 2 ∷ []
 
 known-answers : map (λ (r : Report). r .answer) (heardKnown 0 alone (nothingThere 1024)) ≡ answers
 unfolding answersKnown

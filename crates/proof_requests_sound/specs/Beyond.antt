@@ -94,8 +94,8 @@ module _ (m : State) (sound : SoundHouse (m .house)) (fits : segmentCells * (m .
     used-beyond w (moves c p v q p0 p1 l r k) = unchanged (m .house .segments) (m .store)
     used-beyond w (first c p l k) = unchanged (m .house .segments) (m .store)
     used-beyond w (last c p l k) = unchanged (m .house .segments) (m .store)
-    used-beyond w (replaces p n c p0 p1 l r k) = stores-beyond (value (x .handle) p) n k
-    used-beyond w (appends n c l r d k) = stores-beyond (value (x .handle) 1) n k
+    used-beyond w (replaces p n c p0 p1 l r k b) = stores-beyond (value (x .handle) p) n k
+    used-beyond w (appends n c l r d k b) = stores-beyond (value (x .handle) 1) n k
 
   -- ---- every request
 

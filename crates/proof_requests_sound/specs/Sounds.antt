@@ -61,8 +61,8 @@ module _ (h : SegmentHouse) (s : SoundHouse h) (i : ℕ) (il : i < entries) (x :
   like w (moves c p v q p0 p1 l r k) = (refl, refl)
   like w (first c p l k) = (refl, refl)
   like w (last c p l k) = (refl, refl)
-  like w (replaces p n c p0 p1 l r k) = (refl, refl)
-  like w (appends n c l r d k) = (refl, refl)
+  like w (replaces p n c p0 p1 l r k b) = (refl, refl)
+  like w (appends n c l r d k b) = (refl, refl)
 
   once-used : (w : Use) → Usable (x .handle) (takesAt (h .records) x) (hasRoom h) w
       → (g : ℕ) → mentions (having (w .handle) (segmentsAfter h x (w .handle) (w .deed))) g ≤ 1
@@ -71,8 +71,8 @@ module _ (h : SegmentHouse) (s : SoundHouse h) (i : ℕ) (il : i < entries) (x :
   once-used w (moves c p v q p0 p1 l r k) = shrinks _ _ refl (λ g. le-refl _)
   once-used w (first c p l k) = shrinks _ _ refl (λ g. times-drop g (length (x .content) - holds (moved (x .handle) 0 (value (x .handle) 0 + 1))) (x .content))
   once-used w (last c p l k) = shrinks _ _ refl (λ g. times-take g (holds (moved (x .handle) 1 (value (x .handle) 1 - 1))) (x .content))
-  once-used w (replaces p n c p0 p1 l r k) = stores-once (value (x .handle) p) (moved (x .handle) p (value (x .handle) p + 1)) refl k
-  once-used w (appends n c l r d k) = stores-once (value (x .handle) 1) (moved (x .handle) 1 (value (x .handle) 1 + 1)) refl k
+  once-used w (replaces p n c p0 p1 l r k b) = stores-once (value (x .handle) p) (moved (x .handle) p (value (x .handle) p + 1)) refl k
+  once-used w (appends n c l r d k b) = stores-once (value (x .handle) 1) (moved (x .handle) 1 (value (x .handle) 1 + 1)) refl k
 
   used-sound : (w : Use) → Usable (x .handle) (takesAt (h .records) x) (hasRoom h) w
       → SoundHouse (having (w .handle) (segmentsAfter h x (w .handle) (w .deed)))

@@ -118,5 +118,5 @@ module _ (h : SegmentHouse) (i u : ℕ) (x : SegmentOpening) (f : SoundOpen (h .
   kept-open room w (moves t p v q p0 p1 l r k) g = kept-moves h u x f p v q p0 p1 l r
   kept-open room w (first t p l k) g = kept-first h u x f p l
   kept-open room w (last t p l k) g = kept-last h u x f p l
-  kept-open room w (replaces p n t p0 p1 l r k) g = kept-replaces p n t p0 p1 l r (g (value old p) k)
-  kept-open room w (appends n t l r c k) g = kept-appends n t l r c (g end k)
+  kept-open room w (replaces p n t p0 p1 l r k b) g = kept-replaces p n t p0 p1 l r (g (value old p) k)
+  kept-open room w (appends n t l r c k b) g = kept-appends n t l r c (g end k)
