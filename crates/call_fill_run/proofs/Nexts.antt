@@ -10,6 +10,7 @@ use lib.ListN.{length, getD}
 use borrow.Author.Tests.{ne-eqb, le-ltb}
 use Rattle.combine.specs.Verdict.{Verdict, done, refuse_when_else_}
 use Rattle.combine.specs.laws.Numbers.{eq-or-ne}
+use Rattle.numbers.specs.Numbers.{isForeign}
 use Rattle.placing.specs.declared.Segment.{Segment}
 use Rattle.placing.specs.Sizes.{greatestSpecies, allPointers}
 use Rattle.placing.specs.Placing.{segment, position, stretchOf, heldOf, slotOf}
@@ -38,6 +39,7 @@ use Rattle.run_takes.specs.Takes.{Points, Far}
 -- ---- a next that does nothing to the opening but move its pointer
 
 record Moves (o : Opening) (p : ℕ) : Type 0 where
+  pub kind : isForeign false (o .species) ≡ false
   pub low : valueOf o 0 ≤ valueOf o p
   pub high : valueOf o p < valueOf o 1
   pub allowed : lacksPermit p 0 (o .permit) ≡ false
@@ -52,19 +54,24 @@ module _ (s t : List ℕ) (i : ℕ) (w : Standing (length s) t i) (p : ℕ) wher
       let known = standing-known s t i w o refl in
       let first = known .file .first in
       let there = ne-eqb (valueOf o p) 0 (λ z. let l = m .low in omega arith) in
-      let plan : NextPlan o p (At (segmentFor o (valueOf o p)) x) = next-there o p x refl (eqb (valueOf o p) 0) refl there _ refl (m .allowed) (m .low) (m .high) (known .file) _ refl in
-      record { outcome = use-used s t i w (next p) ∙ sym (next-told t o p _ plan _ x refl known s i (pointed o p (position (valueOf o p + 1))) _ (sym (m .left)) refl) }
+      let plan : NextPlan o false p (At (segmentFor o (valueOf o p)) x) = next-there false o p _ refl (m .kind) x refl (eqb (valueOf o p) 0) refl there _ refl (m .allowed) (m .low) (m .high) (known .file) _ refl in
+      record { outcome = use-used s t i w (next p) ∙ sym (next-told t o false p _ plan _ x refl known s i (pointed o p (position (valueOf o p + 1))) _ (sym (m .left)) refl) }
 
--- ---- a next that is done was allowed
+-- ---- a next that is done was of its file's kind, and allowed
 
 passed-on : (n : ℕ) (b : Bool) (v : Verdict Use) (u : Use) → refuse_when_else_ n b v ≡ done u → (b ≡ false) × (v ≡ done u)
 unfolding refuse_when_else_
 passed-on n true v u e = let z : _≡_ {A = ℕ} 0 1 = cc in absurd (omega arith)
 passed-on n false v u e = (refl, e)
 
-pub next-allowed : (o : Opening) (p : ℕ) (u : Use) → nextRule p (handleIn o) ≡ done u → lacksPermit p 0 (o .permit) ≡ false
-unfolding nextRule
-next-allowed o p u e = passed-on 5 _ _ u (passed-on 4 _ _ u e .1) .0
+module _ (o : Opening) (p : ℕ) (u : Use) (e : nextRule false p (handleIn o) ≡ done u) where
+  pub next-kind : isForeign false (o .species) ≡ false
+  unfolding nextRule
+  next-kind = passed-on 19 _ _ u e .0
+
+  pub next-allowed : lacksPermit p 0 (o .permit) ≡ false
+  unfolding nextRule
+  next-allowed = passed-on 5 _ _ u (passed-on 4 _ _ u (passed-on 19 _ _ u e .1) .1) .0
 
 -- ---- the opening whose pointer is j further on, within the stretch
 
@@ -117,6 +124,7 @@ module _ (o : Opening) (eight : length (o .pointers) ≡ allPointers) (j : ℕ) 
 pub record Within (o : Opening) (p left k : ℕ) : Type 0 where
   pub points : Points o p
   pub low : valueOf o 0 ≤ valueOf o p
+  pub kind : isForeign false (o .species) ≡ false
   pub allowed : lacksPermit p 0 (o .permit) ≡ false
   pub far : Far o p left k
 
@@ -150,7 +158,7 @@ module _ (o : Opening) (eight : length (o .pointers) ≡ allPointers) (p left k 
       let e : valueOf (on o p j) 1 ≡ valueOf o 1 = value-beside o p _ 1 not-end in
       let most = a .far .before in
       let begin = same-there .low in
-      record { low = omega arith; high = omega arith; allowed = a .allowed; left = same-there .left ∙ ap (λ (x : ℕ). pointed (on o p j) p (position (x + 1))) (sym v) }
+      record { kind = a .kind; low = omega arith; high = omega arith; allowed = a .allowed; left = same-there .left ∙ ap (λ (x : ℕ). pointed (on o p j) p (position (x + 1))) (sym v) }
 
   tells : (s : List ℕ) → let y = on o p j in
       elementAt s (y .species) (segmentFor y (valueOf y p)) (position (valueOf y p)) ≡ elementAt s (o .species) (segmentFor o (valueOf o p)) (position (valueOf o p + j))

@@ -2,6 +2,7 @@
 -- of which n places are filled; o is the opening that was loaded. Assumes nothing.
 use Prim.Native.Nat.{ℕ, zero, suc, _+_, _-_, _*_, _≤_, _<_}
 use mathlib.Core.Path.{_≡_, refl, sym, ap, subst, _∙_}
+use mathlib.Core.Bool.{false}
 use mathlib.Core.List.{List, [], _∷_, _++_}
 use native.Mathlib.Nat.{le-of-suc-le-suc, not-suc-le-zero}
 use native.Mathlib.Numerals.{add-one}
@@ -43,7 +44,7 @@ use Rattle.call_fill_run.specs.declared.Turn.{Turn}
 use Rattle.call_fill_run.specs.declared.Turn.the-variants.{Stopped, Went}
 use Rattle.call_fill_run.specs.Turned.{TurnSaid, Turned}
 use Rattle.call_fill_run.proofs.Filling.{Filling, filling-starts, filling-ends, filling-stops, turn-fits, filling-on}
-use Rattle.call_fill_run.proofs.Nexts.{next-allowed, Within, next-steps}
+use Rattle.call_fill_run.proofs.Nexts.{next-kind, next-allowed, Within, next-steps}
 
 -- ---- lists
 
@@ -81,11 +82,11 @@ module _ (i p : ℕ) (s t l : List ℕ) (n k : ℕ) where
 -- ---- one single call
 
 module _ (i p : ℕ) (s t : List ℕ) (w : Standing (length s) t i) (o : Opening) (eo : o ≡ openingAt t i) where
-  single-call : (z : Outcome Lent) → z ≡ usedOut s t i o (nextRule p (handleIn o)) → z ≡ useOn i (next p) (lent s t)
-  single-call z e = e ∙ ap (λ (y : Opening). usedOut s t i y (nextRule p (handleIn y))) eo ∙ sym (use-used s t i w (next p))
+  single-call : (z : Outcome Lent) → z ≡ usedOut s t i o (nextRule false p (handleIn o)) → z ≡ useOn i (next p) (lent s t)
+  single-call z e = e ∙ ap (λ (y : Opening). usedOut s t i y (nextRule false p (handleIn y))) eo ∙ sym (use-used s t i w (next p))
 
   module _ (l : List ℕ) (n : ℕ) where
-    module _ (t′ : List ℕ) (a : Answer) (e : outcome a s t′ ≡ usedOut s t i o (nextRule p (handleIn o))) where
+    module _ (t′ : List ℕ) (a : Answer) (e : outcome a s t′ ≡ usedOut s t i o (nextRule false p (handleIn o))) where
       pub single-stops : (why : Refusal) → a ≡ Refused why → Turned i p s t l n (Stopped why) t′ l
       single-stops why ea = record { says = record { list = refl; call = ap (λ (b : Answer). outcome b s t′) (sym ea) ∙ single-call _ e } }
 
@@ -104,16 +105,16 @@ module _ (i p : ℕ) (s t : List ℕ) (w : Standing (length s) t i) (o : Opening
 
     -- ---- what a reading says
 
-    module _ (r : Reading) (a : NextPlan o p r) where
+    module _ (r : Reading) (a : NextPlan o false p r) where
       pub reading-stops : (why : Refusal) → r ≡ No why → Turned i p s t l n (Stopped why) t l
-      reading-stops why e = record { says = record { list = refl; call = single-call _ (next-kept t o p r a s i why e) } }
+      reading-stops why e = record { says = record { list = refl; call = single-call _ (next-kept t o false p r a s i why e) } }
 
       module _ (g : Segment) (x : Position) (e : r ≡ At g x) where
-        said : NextSaid o p (At g x)
-        said = subst (λ (y : Reading). NextSaid o p y) e (a .plan)
+        said : NextSaid o false p (At g x)
+        said = subst (λ (y : Reading). NextSaid o false p y) e (a .plan)
 
         -- the reading that the arm has
-        pub reading-plan : NextPlan o p (At g x)
+        pub reading-plan : NextPlan o false p (At g x)
         reading-plan = record { plan = said }
 
         pub reading-points : Points o p
@@ -124,14 +125,14 @@ module _ (i p : ℕ) (s t : List ℕ) (w : Standing (length s) t i) (o : Opening
             record { species = f .species; known = said .1 .known; some = omega arith; before = omega arith; last = f .last }
 
         pub reading-fits : g .0 * segmentCells + segmentCells ≤ length s
-        reading-fits = next-fits t o p r a g x e (standing-known s t i w o eo) (length s) (standing-fits w)
+        reading-fits = next-fits t o false p r a g x e (standing-known s t i w o eo) (length s) (standing-fits w)
 
         pub stretch-went : (k : ℕ) (t′ l′ : List ℕ) → Far o p (length l - n) k → n < length l → (k ≡ 0 → ⊥) → Took s t i o p g l n k t′ l′ → Turned i p s t l n (Went k) t′ l′
         stretch-went k t′ l′ far h some took =
             let v = said .0 in
             let lies = said .1 .lies in
             let which : g ≡ segmentFor o (valueOf o p) = lies .which ∙ ap (segmentFor o) (sym v) in
-            let within : Within o p (length l - n) k = record { points = reading-points; low = omega arith; allowed = next-allowed o p _ (said .1 .told); far = far } in
+            let within : Within o p (length l - n) k = record { points = reading-points; low = omega arith; kind = next-kind o p _ (said .1 .told); allowed = next-allowed o p _ (said .1 .told); far = far } in
             let goes : GoesAt i p s t l n k o (segmentFor o (valueOf o p)) =
             subst (λ (y : Opening). GoesAt i p s t l n k y (segmentFor y (valueOf y p))) (sym eo)
             (stretch-goes i p s t l n k w (subst (λ (y : Opening). Within y p (length l - n) k) eo within) h (omega (arith, some))) in

@@ -1,6 +1,7 @@
 // The call that fills a list by next: a stretch at a time.
 ghost use mathlib.Core.Path.{_≡_};
 ghost use Prim.Native.Nat.{_<_};
+ghost use mathlib.Core.Bool.{false};
 ghost use lib.Dec.{eqb};
 ghost use lib.ListN.{length};
 ghost use Rattle.combine.specs.Run.{admitted};
@@ -21,7 +22,6 @@ use call_next_prev::Reading;
 use call_next_prev::delivery;
 use call_next_prev::readings;
 use gate::Gate;
-use placing::Segment;
 use tables::Opening;
 
 // What a turn comes to: it is refused, or so many elements are in the list.
@@ -41,10 +41,10 @@ fn single(
     list: &mut [u32],
     from: usize,
 ) -> Turn
-    requires { ⌜ Standing (length (now store)) (now tables) entry × (opening ≡ openingAt (now tables) entry) × NextPlan opening pointer reading × (from < length (now list)) ⌝ }
+    requires { ⌜ Standing (length (now store)) (now tables) entry × (opening ≡ openingAt (now tables) entry) × NextPlan opening false pointer reading × (from < length (now list)) ⌝ }
     ensures { λ r. ⌜ Turned entry pointer (now (store .entry)) (now (tables .entry)) (now (list .entry)) from r (now (tables .exit)) (now (list .exit)) ⌝ }
 {
-    let answer = delivery::deliver_next(store, tables, entry, opening, pointer, reading);
+    let answer = delivery::deliver_next(store, tables, entry, opening, pointer, false, reading);
     match answer {
         Answer::Refused(why) => Turn::Stopped(why),
         Answer::Done(told) => {
@@ -67,7 +67,7 @@ fn advance(
     ensures { λ r. ⌜ Turned entry pointer (now (store .entry)) (now (tables .entry)) (now (list .entry)) from r (now (tables .exit)) (now (list .exit)) ⌝ }
 {
     let opening = tables_openings::load_opening(tables, entry);
-    let reading = readings::forward(opening, pointer);
+    let reading = readings::forward(opening, pointer, false);
     match reading {
         Reading::No(why) => Turn::Stopped(why),
         Reading::At(segment, _value) => {
@@ -120,7 +120,8 @@ fn run_on(
     n
 }
 
-// "a list of length 0 still gets refusals 20, 1, 2, 4, 5 where they apply": 4, and through pointer 0 also 5.
+// "a list of length 0 still gets refusals 20, 1, 2, 4, 5 where they apply": 4, and through pointer 0 also 5; species 6 is refused "with 19,
+// after 2 and before 4; so do P1's runs, at length 0 too" (document 02, P5).
 fn admit(
     store: &[u32],
     tables: &mut [u32],
@@ -130,11 +131,17 @@ fn admit(
     place: &mut u32,
 ) -> usize
     requires { ⌜ Standing (length (now store)) (now tables) entry ⌝ }
-    ensures { λ r. ⌜ filled r (now (place .exit)) (now (list .exit)) (lent (now (store .entry)) (now (tables .exit))) ≡ filledBy pointer (now (list .entry)) (admitted (lent (now (store .entry)) (now (tables .entry))) (pointerGate pointer (eqb pointer 0) (handleIn (openingAt (now (tables .entry)) entry)) (done 0)) (usesOn entry (nextsOf pointer (now (list .entry))) (lent (now (store .entry)) (now (tables .entry))))) ⌝ }
+    ensures { λ r. ⌜ filled r (now (place .exit)) (now (list .exit)) (lent (now (store .entry)) (now (tables .exit))) ≡ filledBy pointer (now (list .entry)) (admitted (lent (now (store .entry)) (now (tables .entry))) (pointerGate false pointer (eqb pointer 0) (handleIn (openingAt (now (tables .entry)) entry)) (done 0)) (usesOn entry (nextsOf pointer (now (list .entry))) (lent (now (store .entry)) (now (tables .entry))))) ⌝ }
 {
     let opening = tables_openings::load_opening(tables, entry);
+    let foreign = numbers::is_foreign(false, opening.species);
     let value = opening.value(pointer);
-    if value.is_none() {
+    let none = value.is_none();
+    if foreign {
+        *place = answers::number(Refusal::Species);
+        return 0;
+    }
+    if none {
         *place = answers::number(Refusal::Pointer);
         return 0;
     }

@@ -83,15 +83,15 @@ module _ (t : List ℕ) (o : Opening) (w : OpenFile o) (p v : ℕ) (d : Deed) (v
 
 -- ---- next: what the arm of a reading has, and what it leaves
 
-module _ (t : List ℕ) (o : Opening) (p : ℕ) (r : Reading) (a : NextPlan o p r) where
-  next-said : (q : Reading) → r ≡ q → NextSaid o p q
-  next-said q e = subst (λ (y : Reading). NextSaid o p y) e (a .plan)
+module _ (t : List ℕ) (o : Opening) (k : Bool) (p : ℕ) (r : Reading) (a : NextPlan o k p r) where
+  next-said : (q : Reading) → r ≡ q → NextSaid o k p q
+  next-said q e = subst (λ (y : Reading). NextSaid o k p y) e (a .plan)
 
-  pub next-kept : (s : List ℕ) (i : ℕ) (why : Refusal) → r ≡ No why → outcome (Refused why) s t ≡ usedOut s t i o (nextRule p (handleIn o))
-  next-kept s i why e = used-no s t i o (nextRule p (handleIn o)) _ (next-said (No why) e)
+  pub next-kept : (s : List ℕ) (i : ℕ) (why : Refusal) → r ≡ No why → outcome (Refused why) s t ≡ usedOut s t i o (nextRule k p (handleIn o))
+  next-kept s i why e = used-no s t i o (nextRule k p (handleIn o)) _ (next-said (No why) e)
 
   module _ (g : Segment) (x : Position) (e : r ≡ At g x) where
-    next-is : NextSaid o p (At g x)
+    next-is : NextSaid o k p (At g x)
     next-is = next-said (At g x) e
 
     pub next-known : p < 8
@@ -107,7 +107,7 @@ module _ (t : List ℕ) (o : Opening) (p : ℕ) (r : Reading) (a : NextPlan o p 
       pub next-fits : (cells : ℕ) → segmentsIn t * 64 ≤ cells → g .0 * 64 + 64 ≤ cells
       next-fits cells l = within t o (w .file) p _ _ _ g x (next-is .1) w cells l
 
-      pub next-told : (s : List ℕ) (i : ℕ) (n : Opening) (z : Outcome Lent) → n ≡ nextLeft o p → z ≡ delivered s t i (o .species) n g x → z ≡ usedOut s t i o (nextRule p (handleIn o))
+      pub next-told : (s : List ℕ) (i : ℕ) (n : Opening) (z : Outcome Lent) → n ≡ nextLeft o p → z ≡ delivered s t i (o .species) n g x → z ≡ usedOut s t i o (nextRule k p (handleIn o))
       next-told s i n z en h =
           let l = next-is .1 .lies in
           let v : x .0 + 1 ≡ valueOf o p + 1 = ap (λ (y : ℕ). y + 1) (sym (next-is .0)) in
@@ -119,15 +119,15 @@ module _ (t : List ℕ) (o : Opening) (p : ℕ) (r : Reading) (a : NextPlan o p 
 
 -- ---- prev
 
-module _ (t : List ℕ) (o : Opening) (p : ℕ) (r : Reading) (a : PrevPlan o p r) where
-  prev-said : (q : Reading) → r ≡ q → PrevSaid o p q
-  prev-said q e = subst (λ (y : Reading). PrevSaid o p y) e (a .plan)
+module _ (t : List ℕ) (o : Opening) (k : Bool) (p : ℕ) (r : Reading) (a : PrevPlan o k p r) where
+  prev-said : (q : Reading) → r ≡ q → PrevSaid o k p q
+  prev-said q e = subst (λ (y : Reading). PrevSaid o k p y) e (a .plan)
 
-  pub prev-kept : (s : List ℕ) (i : ℕ) (why : Refusal) → r ≡ No why → outcome (Refused why) s t ≡ usedOut s t i o (prevRule p (handleIn o))
-  prev-kept s i why e = used-no s t i o (prevRule p (handleIn o)) _ (prev-said (No why) e)
+  pub prev-kept : (s : List ℕ) (i : ℕ) (why : Refusal) → r ≡ No why → outcome (Refused why) s t ≡ usedOut s t i o (prevRule k p (handleIn o))
+  prev-kept s i why e = used-no s t i o (prevRule k p (handleIn o)) _ (prev-said (No why) e)
 
   module _ (g : Segment) (x : Position) (e : r ≡ At g x) where
-    prev-is : PrevSaid o p (At g x)
+    prev-is : PrevSaid o k p (At g x)
     prev-is = prev-said (At g x) e
 
     pub prev-known : p < 8
@@ -143,7 +143,7 @@ module _ (t : List ℕ) (o : Opening) (p : ℕ) (r : Reading) (a : PrevPlan o p 
       pub prev-fits : (cells : ℕ) → segmentsIn t * 64 ≤ cells → g .0 * 64 + 64 ≤ cells
       prev-fits cells l = within t o (w .file) p _ _ _ g x (prev-is .1) w cells l
 
-      pub prev-told : (s : List ℕ) (i : ℕ) (n : Opening) (z : Outcome Lent) → n ≡ prevLeft o p → z ≡ delivered s t i (o .species) n g x → z ≡ usedOut s t i o (prevRule p (handleIn o))
+      pub prev-told : (s : List ℕ) (i : ℕ) (n : Opening) (z : Outcome Lent) → n ≡ prevLeft o p → z ≡ delivered s t i (o .species) n g x → z ≡ usedOut s t i o (prevRule k p (handleIn o))
       prev-told s i n z en h =
           let l = prev-is .1 .lies in
           let q = prev-is .0 in

@@ -1,7 +1,7 @@
 -- The calls `next` and `prev`: what they deliver, and the opening after them. Assumes nothing.
 use Prim.Native.Nat.{ℕ, _+_, _-_, _≤_, _<_}
 use mathlib.Core.Path.{_≡_}
-use mathlib.Core.Bool.{Bool, not, _&&_, cond}
+use mathlib.Core.Bool.{Bool, true, false, not, _&&_, cond}
 use mathlib.Core.List.{List}
 use lib.Dec.{eqb}
 use lib.ListN.{getD}
@@ -12,6 +12,7 @@ use Rattle.placing.specs.declared.Segment.{Segment}
 use Rattle.placing.specs.declared.Position.{Position}
 use Rattle.placing.specs.Placing.{segment, position, slotOf}
 use Rattle.store.specs.Store.{elementAt}
+use Rattle.rules.specs.Calls.{Act, next, prev, nextSigned, prevSigned}
 use Rattle.rules.specs.Headings.{moved}
 use Rattle.rules.specs.Effects.{Deed, stays, firstLeaves, lastLeaves, element, Use, does}
 use Rattle.rules.specs.Access.{nextRule, prevRule}
@@ -23,6 +24,15 @@ use Rattle.cells.specs.Outcomes.{Lent, lent}
 use Rattle.opening_laws.specs.Deeded.{firstLeft, lastLeft}
 use Rattle.call_next_prev.specs.declared.Reading.{Reading}
 use Rattle.call_next_prev.specs.declared.Reading.the-variants.{No, At}
+
+-- document 02, P5: species 6 "has its own write and next and prev that take and give a signed number"
+abbrev pub nextOf : (signed : Bool) (pointer : ℕ) → Act
+nextOf true p = nextSigned p
+nextOf false p = next p
+
+abbrev pub prevOf : (signed : Bool) (pointer : ℕ) → Act
+prevOf true p = prevSigned p
+prevOf false p = prev p
 
 -- the segment of position x
 abbrev pub segmentFor : Opening → ℕ → Segment
@@ -52,20 +62,20 @@ pub record Delivers (o : Opening) (p v : ℕ) (d : Deed) (verdict : Verdict Use)
   pub lies : Lies o g x
   pub told : verdict ≡ done (does (element (x .0)) (moved (handleIn o) p v) d)
 
--- what a reading says of the verdict
-abbrev pub NextSaid : Opening → ℕ → Reading → Type 0
-NextSaid o p (No why) = nextRule p (handleIn o) ≡ refused (refusalNumber why)
-NextSaid o p (At g x) = (valueOf o p ≡ x .0) × Delivers o p (x .0 + 1) (cond (eqb p 0) firstLeaves stays) (nextRule p (handleIn o)) g x
+-- what a reading says of the verdict; k says that the call is a signed one
+abbrev pub NextSaid : Opening → (signed : Bool) (pointer : ℕ) → Reading → Type 0
+NextSaid o k p (No why) = nextRule k p (handleIn o) ≡ refused (refusalNumber why)
+NextSaid o k p (At g x) = (valueOf o p ≡ x .0) × Delivers o p (x .0 + 1) (cond (eqb p 0) firstLeaves stays) (nextRule k p (handleIn o)) g x
 
-abbrev pub PrevSaid : Opening → ℕ → Reading → Type 0
-PrevSaid o p (No why) = prevRule p (handleIn o) ≡ refused (refusalNumber why)
-PrevSaid o p (At g x) = (valueOf o p ≡ x .0 + 1) × Delivers o p (x .0) (cond (eqb p 1) lastLeaves stays) (prevRule p (handleIn o)) g x
+abbrev pub PrevSaid : Opening → (signed : Bool) (pointer : ℕ) → Reading → Type 0
+PrevSaid o k p (No why) = prevRule k p (handleIn o) ≡ refused (refusalNumber why)
+PrevSaid o k p (At g x) = (valueOf o p ≡ x .0 + 1) × Delivers o p (x .0) (cond (eqb p 1) lastLeaves stays) (prevRule k p (handleIn o)) g x
 
-pub record NextPlan (o : Opening) (p : ℕ) (r : Reading) : Type 0 where
-  pub plan : NextSaid o p r
+pub record NextPlan (o : Opening) (signed : Bool) (p : ℕ) (r : Reading) : Type 0 where
+  pub plan : NextSaid o signed p r
 
-pub record PrevPlan (o : Opening) (p : ℕ) (r : Reading) : Type 0 where
-  pub plan : PrevSaid o p r
+pub record PrevPlan (o : Opening) (signed : Bool) (p : ℕ) (r : Reading) : Type 0 where
+  pub plan : PrevSaid o signed p r
 
 -- the element at x, in segment g, is the answer, and the opening at entry i is n then
 unfoldable pub delivered : List ℕ → List ℕ → ℕ → ℕ → Opening → Segment → Position → Outcome Lent

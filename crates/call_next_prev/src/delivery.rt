@@ -66,10 +66,11 @@ pub fn deliver_next(
     entry: usize,
     opening: Opening,
     pointer: u32,
+    signed: bool,
     reading: Reading,
 ) -> Answer
-    requires { ⌜ (length (now tables) ≡ tablesLength) × (entry < entries) × (segmentsIn (now tables) * segmentCells ≤ length (now store)) × Known (now tables) opening × NextPlan opening pointer reading ⌝ }
-    ensures { λ r. ⌜ outcome r (now (store .entry)) (now (tables .exit)) ≡ usedOut (now (store .entry)) (now (tables .entry)) entry opening (nextRule pointer (handleIn opening)) ⌝ }
+    requires { ⌜ (length (now tables) ≡ tablesLength) × (entry < entries) × (segmentsIn (now tables) * segmentCells ≤ length (now store)) × Known (now tables) opening × NextPlan opening signed pointer reading ⌝ }
+    ensures { λ r. ⌜ outcome r (now (store .entry)) (now (tables .exit)) ≡ usedOut (now (store .entry)) (now (tables .entry)) entry opening (nextRule signed pointer (handleIn opening)) ⌝ }
 {
     match reading {
         Reading::No(why) => Answer::Refused(why),
@@ -94,10 +95,11 @@ pub fn deliver_prev(
     entry: usize,
     opening: Opening,
     pointer: u32,
+    signed: bool,
     reading: Reading,
 ) -> Answer
-    requires { ⌜ (length (now tables) ≡ tablesLength) × (entry < entries) × (segmentsIn (now tables) * segmentCells ≤ length (now store)) × Known (now tables) opening × PrevPlan opening pointer reading ⌝ }
-    ensures { λ r. ⌜ outcome r (now (store .entry)) (now (tables .exit)) ≡ usedOut (now (store .entry)) (now (tables .entry)) entry opening (prevRule pointer (handleIn opening)) ⌝ }
+    requires { ⌜ (length (now tables) ≡ tablesLength) × (entry < entries) × (segmentsIn (now tables) * segmentCells ≤ length (now store)) × Known (now tables) opening × PrevPlan opening signed pointer reading ⌝ }
+    ensures { λ r. ⌜ outcome r (now (store .entry)) (now (tables .exit)) ≡ usedOut (now (store .entry)) (now (tables .entry)) entry opening (prevRule signed pointer (handleIn opening)) ⌝ }
 {
     match reading {
         Reading::No(why) => Answer::Refused(why),

@@ -29,13 +29,19 @@ fn segment_for(opening: Opening, position: Position) -> Segment
     opening.segments[place]
 }
 
-// "Next: v < b is 6, v >= e is 7. Delivers position v"
-pub fn forward(opening: Opening, pointer: u32) -> Reading
+// "Next: v < b is 6, v >= e is 7. Delivers position v"; a species that is not of the call's kind is 19, "after 2 and before 4"
+// (document 02, P5).
+pub fn forward(opening: Opening, pointer: u32, signed: bool) -> Reading
     requires { ⌜ OpenFile opening ⌝ }
-    ensures { λ r. ⌜ NextPlan opening pointer r ⌝ }
+    ensures { λ r. ⌜ NextPlan opening signed pointer r ⌝ }
 {
+    let foreign = numbers::is_foreign(signed, opening.species);
     let value = opening.value(pointer);
-    if value.is_none() {
+    let none = value.is_none();
+    if foreign {
+        return Reading::No(Refusal::Species);
+    }
+    if none {
         return Reading::No(Refusal::Pointer);
     }
     if lacks_permit(pointer, 0, opening.permit) {
@@ -53,13 +59,18 @@ pub fn forward(opening: Opening, pointer: u32) -> Reading
     Reading::At(segment, value)
 }
 
-// "Prev: v <= b is 6, v > e is 7. v falls by 1, delivers that position."
-pub fn backward(opening: Opening, pointer: u32) -> Reading
+// "Prev: v <= b is 6, v > e is 7. v falls by 1, delivers that position."; 19 as before.
+pub fn backward(opening: Opening, pointer: u32, signed: bool) -> Reading
     requires { ⌜ OpenFile opening ⌝ }
-    ensures { λ r. ⌜ PrevPlan opening pointer r ⌝ }
+    ensures { λ r. ⌜ PrevPlan opening signed pointer r ⌝ }
 {
+    let foreign = numbers::is_foreign(signed, opening.species);
     let value = opening.value(pointer);
-    if value.is_none() {
+    let none = value.is_none();
+    if foreign {
+        return Reading::No(Refusal::Species);
+    }
+    if none {
         return Reading::No(Refusal::Pointer);
     }
     if lacks_permit(pointer, 1, opening.permit) {

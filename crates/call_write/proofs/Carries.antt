@@ -1,6 +1,7 @@
 -- A plan is carried out, as the code's steps give its premises. Assumes nothing.
 use Prim.Native.Nat.{ℕ, _+_, _*_, _≤_, _<_}
 use mathlib.Core.Path.{_≡_, sym, ap, subst, _∙_}
+use mathlib.Core.Bool.{Bool}
 use mathlib.Core.Option.{some}
 use mathlib.Core.List.{List}
 use native.Mathlib.Omega.{arith}
@@ -66,14 +67,14 @@ module _ (s t : List ℕ) (i : ℕ) (o : Opening) (w : OpenFile o) (p : ℕ) (ve
 
 -- ---- what each arm has of its plan
 
-module _ (t : List ℕ) (o : Opening) (p : ℕ) (plan : Plan) (a : Planned t o p (writeVerdict t o p) plan) where
-  is : (q : Plan) → plan ≡ q → Says t o p (writeVerdict t o p) q
-  is q e = subst (λ (r : Plan). Says t o p (writeVerdict t o p) r) e (a .says)
+module _ (t : List ℕ) (o : Opening) (p : ℕ) (signed wide : Bool) (plan : Plan) (a : Planned t o p (writeVerdict t o p signed wide) plan) where
+  is : (q : Plan) → plan ≡ q → Says t o p (writeVerdict t o p signed wide) q
+  is q e = subst (λ (r : Plan). Says t o p (writeVerdict t o p signed wide) r) e (a .says)
 
   pub drop-some : plan ≡ Drop → valueOf o 0 < valueOf o 1
   drop-some e = is Drop e .some
 
-  moves : Known t o → {k : ℕ} {g : Segment} → Stores t o p (writeVerdict t o p) k g → Moves o p
+  moves : Known t o → {k : ℕ} {g : Segment} → Stores t o p (writeVerdict t o p signed wide) k g → Moves o p
   moves w f =
       let x = w .file in
       let y = f .seats in
@@ -84,7 +85,7 @@ module _ (t : List ℕ) (o : Opening) (p : ℕ) (plan : Plan) (a : Planned t o p
     put-moves g e = moves w (is (Put g) e .into)
 
     -- an opening with another segment at a place
-    moves-with : {k : ℕ} {g : Segment} → Stores t o p (writeVerdict t o p) k g → (n : Opening) → n ≡ withSegment o k g → Moves n p
+    moves-with : {k : ℕ} {g : Segment} → Stores t o p (writeVerdict t o p signed wide) k g → (n : Opening) → n ≡ withSegment o k g → Moves n p
     unfolding valueOf
     moves-with {k} {g} f n e =
         let m = moves w f in
@@ -118,17 +119,17 @@ module _ (t : List ℕ) (o : Opening) (p : ℕ) (plan : Plan) (a : Planned t o p
   -- ---- what each arm leaves
 
   module _ (s : List ℕ) (i m : ℕ) where
-    pub carry-no : (why : Refusal) → plan ≡ No why → outcome (Refused why) s t ≡ usedOut s t i o (writeVerdict t o p m)
-    carry-no why e = used-no s t i o (writeVerdict t o p m) _ (is (No why) e m)
+    pub carry-no : (why : Refusal) → plan ≡ No why → outcome (Refused why) s t ≡ usedOut s t i o (writeVerdict t o p signed wide m)
+    carry-no why e = used-no s t i o (writeVerdict t o p signed wide m) _ (is (No why) e m)
 
     module _ (w : Known t o) where
-      pub carry-drop : (n : Opening) (t′ : List ℕ) → plan ≡ Drop → n ≡ firstLeft o → t′ ≡ putOpening t i n → outcome (Done 0) s t′ ≡ usedOut s t i o (writeVerdict t o p m)
+      pub carry-drop : (n : Opening) (t′ : List ℕ) → plan ≡ Drop → n ≡ firstLeft o → t′ ≡ putOpening t i n → outcome (Done 0) s t′ ≡ usedOut s t i o (writeVerdict t o p signed wide m)
       carry-drop n t′ e en et =
           let d = is Drop e in
           (λ j. outcomeOf (done 0) (lent s ((et ∙ ap (putOpening t i) en) j)))
-          ∙ sym (used-done s t i o (writeVerdict t o p m) (plain 0) _ firstLeaves _ (d .told m) (first-back o (w .file) (d .some) (houseOf t)))
+          ∙ sym (used-done s t i o (writeVerdict t o p signed wide m) (plain 0) _ firstLeaves _ (d .told m) (first-back o (w .file) (d .some) (houseOf t)))
 
-      pub carry-put : (g : Segment) (z : Outcome Lent) → plan ≡ Put g → z ≡ settled s t i o p m g → z ≡ usedOut s t i o (writeVerdict t o p m)
+      pub carry-put : (g : Segment) (z : Outcome Lent) → plan ≡ Put g → z ≡ settled s t i o p m g → z ≡ usedOut s t i o (writeVerdict t o p signed wide m)
       unfolding settled
       carry-put g z e h =
           let f = is (Put g) e in
@@ -136,20 +137,20 @@ module _ (t : List ℕ) (o : Opening) (p : ℕ) (plan : Plan) (a : Planned t o p
           let same : set (o .segments) k g ≡ o .segments = ap (set (o .segments) k) (sym (f .there)) ∙ set-getD (o .segments) k (segment 0) in
           h
           ∙ (λ j. outcomeOf (done 0) (lent (putElement s (o .species) g (position (valueOf o p)) m) (putOpening t i (withSegments (pointed o p (position (valueOf o p + 1))) (sym same j)))))
-          ∙ sym (stored s t i o (w .file) p (writeVerdict t o p) k g (f .into) m s (f .cells s))
+          ∙ sym (stored s t i o (w .file) p (writeVerdict t o p signed wide) k g (f .into) m s (f .cells s))
 
       pub carry-copy : (k : ℕ) (f g : Segment) (n : Opening) (s′ : List ℕ) (z : Outcome Lent) → plan ≡ Copy k f g → s′ ≡ copied s f g → n ≡ withSegment o k g → z ≡ settled s′ t i n p m g
-          → z ≡ usedOut s t i o (writeVerdict t o p m)
+          → z ≡ usedOut s t i o (writeVerdict t o p signed wide m)
       unfolding settled valueOf
       carry-copy k f g n s′ z e es en h =
           let c = is (Copy k f g) e in
-          h ∙ (λ j. settled (es j) t i (en j) p m g) ∙ sym (stored s t i o (w .file) p (writeVerdict t o p) k g (c .into) m (copied s f g) (c .cells s))
+          h ∙ (λ j. settled (es j) t i (en j) p m g) ∙ sym (stored s t i o (w .file) p (writeVerdict t o p signed wide) k g (c .into) m (copied s f g) (c .cells s))
 
       pub carry-zero : (k : ℕ) (g : Segment) (n : Opening) (s′ : List ℕ) (z : Outcome Lent) → plan ≡ Zero k g → s′ ≡ zeroed s g → n ≡ withSegment o k g → z ≡ settled s′ t i n p m g
-          → z ≡ usedOut s t i o (writeVerdict t o p m)
+          → z ≡ usedOut s t i o (writeVerdict t o p signed wide m)
       unfolding settled valueOf
       carry-zero k g n s′ z e es en h =
           let c = is (Zero k g) e in
-          h ∙ (λ j. settled (es j) t i (en j) p m g) ∙ sym (stored s t i o (w .file) p (writeVerdict t o p) k g (c .into) m (zeroed s g) (c .cells s))
+          h ∙ (λ j. settled (es j) t i (en j) p m g) ∙ sym (stored s t i o (w .file) p (writeVerdict t o p signed wide) k g (c .into) m (zeroed s g) (c .cells s))
 
 pub ruleset carries = (drop-some, put-moves, copy-moves, zero-moves, copy-place, zero-place, put-fits, copy-from, copy-to, zero-fits, carry-no, carry-drop, carry-put, carry-copy, carry-zero)

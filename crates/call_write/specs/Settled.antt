@@ -1,4 +1,4 @@
--- A plan carried out. Assumes nothing.
+-- A plan carried out, and the act that writes a number. Assumes nothing.
 use Prim.Native.Nat.{ℕ, _+_, _≤_, _<_}
 use mathlib.Core.List.{List}
 use Rattle.combine.specs.Verdict.{done}
@@ -7,6 +7,9 @@ use Rattle.placing.specs.declared.Segment.{Segment}
 use Rattle.placing.specs.Sizes.{greatestEnd, greatestSpecies}
 use Rattle.placing.specs.Placing.{position}
 use Rattle.store.specs.Store.{putElement}
+use Rattle.numbers.specs.declared.Number.{Number}
+use Rattle.numbers.specs.declared.Number.the-variants.{Plain, Signed}
+use Rattle.rules.specs.Calls.{Act, write, writeSigned}
 use Rattle.tables.specs.declared.Opening.{Opening}
 use Rattle.tables.specs.Layout.{putOpening}
 use Rattle.tables.specs.Fields.{valueOf}
@@ -24,3 +27,8 @@ pub record Moves (o : Opening) (p : ℕ) : Type 0 where
   pub known : p < 8
   pub some : 1 ≤ valueOf o p
   pub small : valueOf o p ≤ greatestEnd
+
+-- the act, by the kind of its number
+abbrev pub writeOf : (pointer : ℕ) → Number → Act
+writeOf p (Plain n) = write p n
+writeOf p (Signed z) = writeSigned p z

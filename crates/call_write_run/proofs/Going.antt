@@ -14,9 +14,10 @@ use Rattle.combine.specs.Run.{Ran, ran, admitted}
 use Rattle.combine.specs.laws.Mapped.{map-drop}
 use Rattle.combine.specs.laws.Run.{behind, run-none, run-stops}
 use Rattle.answers.specs.declared.Refusal.{Refusal}
-use Rattle.answers.specs.declared.Refusal.the-variants.{Pointer, Permit}
+use Rattle.answers.specs.declared.Refusal.the-variants.{Species, Pointer, Permit}
 use Rattle.answers.specs.declared.Answer.the-variants.{Refused}
 use Rattle.answers.specs.Said.{refusalNumber}
+use Rattle.numbers.specs.Numbers.{isForeign}
 use Rattle.placing.specs.declared.Position.{Position}
 use Rattle.rules.specs.Calls.{Act, write, writes}
 use Rattle.rules.specs.Runs.{admits}
@@ -31,7 +32,7 @@ use Rattle.gate.specs.declared.Gate.the-variants.{No, At}
 use Rattle.gate.specs.Gates.{reachOf}
 use Rattle.gate_laws.specs.Standing.{Standing}
 use Rattle.run_laws.specs.Singles.{useOn, usesOn, writesOf}
-use Rattle.run_laws.specs.Admitted.{run-refused, run-behind, no-pointer, no-permit, works-on}
+use Rattle.run_laws.specs.Admitted.{run-refused, run-behind, no-kind, no-pointer, no-permit, works-on}
 use Rattle.call_write_run.specs.declared.Turn.{Turn}
 use Rattle.call_write_run.specs.declared.Turn.the-variants.{Stopped, Went}
 use Rattle.call_write_run.specs.Turned.{Writes, Turned, wrote}
@@ -102,30 +103,33 @@ module _ (i p : ℕ) (l : List ℕ) (goal : Written) (n : ℕ) (s t : List ℕ) 
         ∙ run-stops (useOn i) (write p (getD l n 0)) (writesOf p (drop (suc n) l)) (refusalNumber why) (lent s t) (lent s′ t′) one in
         (λ j. written ((rest-is l n ∙ ap (λ (k : ℕ). drop k l) (sym (add-zero n))) j) (en j) (lent s′ t′)) ∙ ap (wrote l n) (sym here) ∙ g .left
 
--- ---- 4 and 5: o is the opening that was loaded, v the pointer's value
+-- ---- 19, 4 and 5: o is the opening that was loaded, f says that its species is signed, v is the pointer's value
 
-module _ (s t : List ℕ) (i : ℕ) (o : Opening) (eo : o ≡ openingAt t i) (p : ℕ) (v : Position) (ev : v .0 ≡ valueOf o p) (b : Bool) (eb : b ≡ eqb (v .0) 0) (l : List ℕ) where
+module _ (s t : List ℕ) (i : ℕ) (o : Opening) (eo : o ≡ openingAt t i) (f : Bool) (ef : f ≡ isForeign false (o .species)) (p : ℕ) (v : Position) (ev : v .0 ≡ valueOf o p) (b : Bool)
+    (eb : b ≡ eqb (v .0) 0) (l : List ℕ) where
   abbrev behind-gate : Ran Lent
   behind-gate = usesOn i (writesOf p l) (lent s t)
 
-  refused-here : (number : ℕ) (r : Ran Lent) → r ≡ ran 0 number [] (lent s t) → written l number (lent s t) ≡ wrote l 0 r
+  abbrev judged : Written
+  judged = wrote l 0 (admitted (lent s t) (admits (writes p l) (some (handleIn (openingAt t i)))) (usesOn i (writesOf p l) (lent s t)))
+
+  refused-here : (number m : ℕ) (r : Ran Lent) → number ≡ m → r ≡ ran 0 m [] (lent s t) → written l number (lent s t) ≡ wrote l 0 r
   unfolding wrote
-  refused-here number r e = sym (ap (wrote l 0) e)
+  refused-here number m r en e = ap (λ (k : ℕ). written l k (lent s t)) en ∙ sym (ap (wrote l 0) e)
 
-  pub admit-none : (number : ℕ) → b ≡ true → number ≡ refusalNumber Pointer
-      → written l number (lent s t) ≡ wrote l 0 (admitted (lent s t) (admits (writes p l) (some (handleIn (openingAt t i)))) (usesOn i (writesOf p l) (lent s t)))
-  admit-none number z en =
-      ap (λ (m : ℕ). written l m (lent s t)) en ∙ refused-here (refusalNumber Pointer) _ (no-pointer t i o eo p (v .0) ev b eb true (lent s t) behind-gate z)
+  pub admit-kind : (number : ℕ) → f ≡ true → number ≡ refusalNumber Species → written l number (lent s t) ≡ judged
+  admit-kind number k en = refused-here number _ _ en (no-kind t i o eo f ef p (v .0) ev b eb true (lent s t) behind-gate k)
 
-  module _ (there : b ≡ false) where
-    pub admit-permit : (number : ℕ) → (o .permit ≡ 1 → ⊥) → number ≡ refusalNumber Permit
-        → written l number (lent s t) ≡ wrote l 0 (admitted (lent s t) (admits (writes p l) (some (handleIn (openingAt t i)))) (usesOn i (writesOf p l) (lent s t)))
-    admit-permit number d en =
-        ap (λ (m : ℕ). written l m (lent s t)) en ∙ refused-here (refusalNumber Permit) _ (no-permit t i o eo p (v .0) ev b eb true (lent s t) behind-gate there refl d)
+  module _ (kind : f ≡ false) where
+    pub admit-none : (number : ℕ) → b ≡ true → number ≡ refusalNumber Pointer → written l number (lent s t) ≡ judged
+    admit-none number z en = refused-here number _ _ en (no-pointer t i o eo f ef p (v .0) ev b eb true (lent s t) behind-gate kind z)
 
-    pub admit-on : o .permit ≡ 1 → (z : Written) → z ≡ wrote l 0 (usesOn i (writesOf p l) (lent s t))
-        → z ≡ wrote l 0 (admitted (lent s t) (admits (writes p l) (some (handleIn (openingAt t i)))) (usesOn i (writesOf p l) (lent s t)))
-    admit-on h z e = e ∙ ap (wrote l 0) (sym (works-on t i o eo p (v .0) ev b eb true (lent s t) behind-gate there h))
+    module _ (there : b ≡ false) where
+      pub admit-permit : (number : ℕ) → (o .permit ≡ 1 → ⊥) → number ≡ refusalNumber Permit → written l number (lent s t) ≡ judged
+      admit-permit number d en = refused-here number _ _ en (no-permit t i o eo f ef p (v .0) ev b eb true (lent s t) behind-gate kind there refl d)
+
+      pub admit-on : o .permit ≡ 1 → (z : Written) → z ≡ wrote l 0 (usesOn i (writesOf p l) (lent s t)) → z ≡ judged
+      admit-on h z e = e ∙ ap (wrote l 0) (sym (works-on t i o eo f ef p (v .0) ev b eb true (lent s t) behind-gate kind there h))
 
 -- ---- the call: g is what the gate says
 
@@ -143,6 +147,6 @@ module _ (s t : List ℕ) (u e p : ℕ) (l : List ℕ) (g : Gate) (eg : g ≡ re
 
 pub ruleset going = (going-starts, going-stands, going-some, going-ends, turn-few, turn-goes)
 
-pub ruleset admitting = (admit-none, admit-permit, admit-on)
+pub ruleset admitting = (admit-kind, admit-none, admit-permit, admit-on)
 
 pub ruleset calls = (call-refused, call-done)

@@ -2,14 +2,15 @@
 use Prim.Native.Nat.{ℕ, _≤_, _<_}
 use mathlib.Core.Path.{_≡_, ap, subst}
 use mathlib.Core.Logic.{_≢_, ⊎-elim}
-use mathlib.Core.Bool.{Bool, not, _&&_, cond}
+use mathlib.Core.Bool.{Bool, false, not, _&&_, cond}
 use mathlib.Core.List.{List}
 use native.Mathlib.Omega.{arith}
 use lib.Dec.{T, leb, eqb, nleb→lt}
 use borrow.Author.Tests.{eq-eqb, ne-eqb, eqb-true}
 use Rattle.combine.specs.Verdict.{done}
 use Rattle.combine.specs.laws.Numbers.{eq-or-ne}
-use Rattle.combine.specs.laws.Tests.{true-of, not-not}
+use Rattle.combine.specs.laws.Tests.{true-of, false-of, not-not}
+use Rattle.numbers.specs.Numbers.{isForeign}
 use Rattle.placing.specs.declared.Segment.{Segment}
 use Rattle.placing.specs.Sizes.{greatestEnd}
 use Rattle.rules.specs.Headings.{value}
@@ -26,8 +27,10 @@ use Rattle.run_puts.specs.Puts.{limitOf, Points}
 use Rattle.run_puts.specs.laws.Limits.{limit-end, limit-other}
 use Rattle.call_write_run.proofs.Own.{Own}
 
--- behind 5, 7 and 10; and through 0 the first element leaves
-pub record Judged (o : Opening) (p : ℕ) (d : Deed) : Type 0 where
+-- behind 19, 5, 7, 23 and 10; and through 0 the first element leaves
+pub record Judged (o : Opening) (p : ℕ) (wide : Bool) (d : Deed) : Type 0 where
+  pub kind : isForeign false (o .species) ≡ false
+  pub fits : wide ≡ false
   pub works : o .permit ≡ 1
   pub below : valueOf o p < limitOf o p
   pub deed : p ≡ 0 → d ≡ firstLeaves
@@ -42,25 +45,30 @@ module _ (t : List ℕ) (o : Opening) (p : ℕ) where
       let l : T (not (leb (value (handleIn o) 1) (value (handleIn o) p))) = subst (λ (b : Bool). T (not (not b && leb (value (handleIn o) 1) (value (handleIn o) p)))) (ne-eqb p 1 d) h7 in
       omega (arith, nleb→lt (value (handleIn o) 1) (value (handleIn o) p) l, value-in o p, value-in o 1, limit-other o p d)) (eq-or-ne p 1)
 
-  rule-judged : (n : ℕ) (takes : ℕ → Bool) (room : Bool) → Has (λ (u : Use). Judged o p (u .deed)) (writeRule p n takes room (handleIn o))
+  rule-judged : (wide : Bool) (n : ℕ) (takes : ℕ → Bool) (room : Bool) → Has (λ (u : Use). Judged o p wide (u .deed)) (writeRule p false wide n takes room (handleIn o))
   unfolding writeRule
-  rule-judged n takes room =
-      has _ _ _ _ (λ h4. has _ _ _ _ (λ h5. has _ _ _ _ (λ h6. has _ _ _ _ (λ h7. has _ _ _ _ (λ h10. has _ _ _ _ (λ h8. has _ _ _ _ (λ h9.
+  rule-judged wide n takes room =
+      has _ _ _ _ (λ h19. has _ _ _ _ (λ h4. has _ _ _ _ (λ h5. has _ _ _ _ (λ h6. has _ _ _ _ (λ h7. has _ _ _ _ (λ h23. has _ _ _ _ (λ h10. has _ _ _ _ (λ h8. has _ _ _ _ (λ h9.
       record {
+        kind = false-of (isForeign false (o .species)) h19;
+        fits = false-of wide h23;
         works = eqb-true (o .permit) 1 (true-of (eqb (o .permit) 1) (not-not (eqb (o .permit) 1) h5));
         below = limited h7 h10;
         deed = λ z. ap (λ (b : Bool). cond b firstLeaves (stores (value (handleIn o) p) n)) (eq-eqb p 0 z);
-      })))))))
+      })))))))))
 
-  pub write-judged : (n : ℕ) (u : Use) → writeVerdict t o p n ≡ done u → Judged o p (u .deed)
+  pub write-judged : (wide : Bool) (n : ℕ) (u : Use) → writeVerdict t o p false wide n ≡ done u → Judged o p wide (u .deed)
   unfolding writeVerdict
-  write-judged n u e = has-done (λ (x : Use). Judged o p (x .deed)) (writeVerdict t o p n) u (rule-judged n _ _) e
+  write-judged wide n u e = has-done (λ (x : Use). Judged o p wide (x .deed)) (writeVerdict t o p false wide n) u (rule-judged wide n _ _) e
 
   -- ---- a plan that puts
 
-  module _ (w : Known t o) (g : Segment) (f : Puts t o p (writeVerdict t o p) g) where
-    judged : Judged o p (stores (valueOf o p) 0)
-    judged = write-judged 0 _ (f .into .told 0)
+  module _ (w : Known t o) (wide : Bool) (g : Segment) (f : Puts t o p (writeVerdict t o p false wide) g) where
+    judged : Judged o p wide (stores (valueOf o p) 0)
+    judged = write-judged wide 0 _ (f .into .told 0)
+
+    pub puts-fits : wide ≡ false
+    puts-fits = judged .fits
 
     not-first : p ≢ 0
     not-first z = let q = judged .deed z in let n : _≡_ {A = ℕ} 0 1 = cc in omega arith
@@ -69,6 +77,7 @@ module _ (t : List ℕ) (o : Opening) (p : ℕ) where
     puts-own =
         record {
           known = f .into .seats .known;
+          kind = judged .kind;
           inner = not-first;
           works = judged .works;
           low = f .into .seats .low;

@@ -13,6 +13,7 @@ use borrow.Author.Tests.{ne-eqb, le-ltb, lt-leb}
 use Rattle.combine.specs.Lists.{isIn}
 use Rattle.combine.specs.laws.Lists.{tab-cong}
 use Rattle.combine.specs.laws.Numbers.{eq-or-ne}
+use Rattle.numbers.specs.Numbers.{isForeign}
 use Rattle.placing.specs.declared.Segment.{Segment}
 use Rattle.placing.specs.Sizes.{greatestEnd, mostHeld, places, entries, allPointers, tablesLength}
 use Rattle.placing.specs.Placing.{segment, position, stretchOf, heldOf, slotOf}
@@ -31,7 +32,9 @@ use Rattle.gate_laws.specs.Known.{Known}
 use Rattle.write_plan.specs.declared.Plan.the-variants.{Put}
 use Rattle.write_plan.specs.Plans.{Seats, writeVerdict, seatVerdict, Planned}
 use Rattle.write_plan.proofs.Seats.{seat-put}
-use Rattle.write_plan.proofs.Decides.{append-seats, append-on, inner-seats, write-append, write-on}
+use Rattle.write_plan.proofs.Appends.{append-seats, append-on}
+use Rattle.write_plan.proofs.Insides.{inside-seats, inside-on}
+use Rattle.write_plan.proofs.Decides.{write-append, write-inside}
 use Rattle.run_spans.specs.Ahead.{Ahead}
 use Rattle.run_laws.specs.Pointed.{pointed-shaped, by-value, by-beside}
 use Rattle.run_puts.specs.Puts.{limitOf}
@@ -40,6 +43,7 @@ use Rattle.run_puts.specs.laws.Limits.{limit-end, limit-other}
 -- the position of pointer p lies in segment g, which the opening holds alone, and is written at
 pub record Own (t : List ℕ) (o : Opening) (p : ℕ) (g : Segment) : Type 0 where
   pub known : p < allPointers
+  pub kind : isForeign false (o .species) ≡ false
   pub inner : p ≢ 0
   pub works : o .permit ≡ 1
   pub low : valueOf o 0 ≤ valueOf o p
@@ -62,7 +66,7 @@ module _ (t : List ℕ) (o : Opening) (w : Known t o) (g : Segment) where
   from : (p : ℕ) → Own t o p g → ltb (valueOf o p) (valueOf o 0) ≡ false
   from p a = le-ltb (valueOf o p) (valueOf o 0) (a .low)
 
-  append-planned : Own t o 1 g → Planned t o 1 (writeVerdict t o 1) (Put g)
+  append-planned : Own t o 1 g → Planned t o 1 (writeVerdict t o 1 false false) (Put g)
   append-planned a =
       let f = w .file in
       let e = position (valueOf o 1) in
@@ -72,19 +76,20 @@ module _ (t : List ℕ) (o : Opening) (w : Known t o) (g : Segment) where
       let l : leb greatestEnd (valueOf o 1) ≡ false = lt-leb greatestEnd (valueOf o 1) (omega (arith, a .below, limit-end o 1 refl)) in
       let few : h ≤ mostHeld =
       omega (arith, end-holds o m f x refl, held-behind (o .species) (f .species) (valueOf o 0) (f .first) (valueOf o 1) (f .order), a .held, f .few) in
-      write-append t o 1 (valueOf o 1) refl _ refl (some 1 a) (a .works) (valueOf o 0) refl _ refl (from 1 a) refl (Put g)
-      (append-on t o e refl _ refl l w x refl m refl h refl few (Put g) (seat 1 a (append-seats t o e refl _ refl l w x refl m refl h refl few)))
+      write-append t o 1 false false _ refl (a .kind) (valueOf o 1) refl _ refl (some 1 a) (a .works) (valueOf o 0) refl _ refl (from 1 a) refl (Put g)
+      (append-on t o false refl e refl _ refl l w x refl m refl h refl few (Put g) (seat 1 a (append-seats t o false refl e refl _ refl l w x refl m refl h refl few)))
 
-  inner-planned : (p : ℕ) → Own t o p g → p ≢ 1 → Planned t o p (writeVerdict t o p) (Put g)
+  inner-planned : (p : ℕ) → Own t o p g → p ≢ 1 → Planned t o p (writeVerdict t o p false false) (Put g)
   inner-planned p a d =
       let high : leb (valueOf o 1) (valueOf o p) ≡ false = lt-leb (valueOf o 1) (valueOf o p) (omega (arith, a .below, limit-other o p d)) in
-      write-on t o p (valueOf o p) refl _ refl (some p a) (a .works) (valueOf o 0) refl _ refl (from p a) d (valueOf o 1) refl _ refl high (a .inner) (Put g)
-      (seat p a (inner-seats t o p (valueOf o p) (valueOf o 0) (valueOf o 1) _ _ w refl refl refl (from p a) refl refl high))
+      write-inside t o p false false _ refl (a .kind) (valueOf o p) refl _ refl (some p a) (a .works) (valueOf o 0) refl _ refl (from p a) d (Put g)
+      (inside-on t o p false (valueOf o p) (valueOf o 1) refl refl _ refl high refl (ne-eqb p 0 (a .inner)) (Put g)
+      (seat p a (inside-seats t o p false (valueOf o p) (valueOf o 1) refl refl _ refl high w (a .low))))
 
-  pub own-planned : (p : ℕ) → Own t o p g → Planned t o p (writeVerdict t o p) (Put g)
+  pub own-planned : (p : ℕ) → Own t o p g → Planned t o p (writeVerdict t o p false false) (Put g)
   own-planned p a =
       ⊎-elim
-      (λ (e : p ≡ 1). subst (λ (q : ℕ). Own t o q g → Planned t o q (writeVerdict t o q) (Put g)) (sym e) append-planned a)
+      (λ (e : p ≡ 1). subst (λ (q : ℕ). Own t o q g → Planned t o q (writeVerdict t o q false false) (Put g)) (sym e) append-planned a)
       (λ d. inner-planned p a d) (eq-or-ne p 1)
 
 -- ---- a later position of the stretch: the pointer is j further on, and the opening was put back so
@@ -157,6 +162,7 @@ module _ (t : List ℕ) (long : length t ≡ tablesLength) (i : ℕ) (li : i < e
     own-on =
         record {
           known = a .known;
+          kind = a .kind;
           inner = a .inner;
           works = a .works;
           low = let l = a .low in omega (arith, begins, at);

@@ -2,12 +2,15 @@
 -- tables', n a number. Assumes nothing.
 use Prim.Native.Nat.{ℕ, zero, suc, _+_, _≤_, _<_}
 use mathlib.Core.Path.{_≡_, refl, sym, ap, subst, _∙_}
+use mathlib.Core.Bool.{Bool, false}
 use mathlib.Core.List.{List, [], _∷_, map}
 use native.Mathlib.Nat.{le-of-suc-le-suc, not-suc-le-zero}
 use native.Mathlib.Numerals.{add-one}
 use native.Mathlib.Omega.{arith}
 use lib.ListN.{length, getD, length-map}
 use Rattle.combine.specs.Lists.{tab}
+use Rattle.numbers.specs.declared.Number.the-variants.{Plain}
+use Rattle.numbers.specs.Numbers.{tooWide}
 use Rattle.placing.specs.declared.Segment.{Segment}
 use Rattle.placing.specs.Placing.{position}
 use Rattle.store.specs.Store.{putElement}
@@ -17,13 +20,15 @@ use Rattle.tables.specs.Layout.{openingAt, putOpening}
 use Rattle.tables.specs.Fields.{valueOf}
 use Rattle.tables.specs.Handles.{pointed}
 use Rattle.gate_laws.specs.Standing.{Standing, standing-long}
+use Rattle.cells.specs.Outcomes.{lent}
 use Rattle.gate_laws.specs.Known.{Known, standing-known}
+use Rattle.gate_laws.specs.Used.{usedOut}
 use Rattle.write_plan.specs.declared.Plan.the-variants.{Put}
 use Rattle.write_plan.specs.Plans.{writeVerdict}
 use Rattle.call_write.specs.Settled.{settled}
 use Rattle.call_write.proofs.Carries.{carry-put}
-use Rattle.run_spans.specs.Ahead.{Ahead}
-use Rattle.run_laws.specs.Singles.{writesOf, Goes}
+use Rattle.run_spans.specs.Ahead.{Ahead, Fits}
+use Rattle.run_laws.specs.Singles.{useOn, writesOf, Goes}
 use Rattle.run_laws.specs.Stands.{use-used}
 use Rattle.run_laws.specs.Pointed.{by-there, by-value}
 use Rattle.run_laws.specs.Along.{Steps, goes-along}
@@ -35,25 +40,31 @@ map-at f [] j a b h = absurd (not-suc-le-zero h)
 map-at f (x ∷ l) zero a b h = refl
 map-at f (x ∷ l) (suc j) a b h = map-at f l j a b (le-of-suc-le-suc h)
 
+-- a write of a number that is not too wide
+pub fitting-used : (s t : List ℕ) (i : ℕ) → Standing (length s) t i → (p n : ℕ) → tooWide (openingAt t i .species) (Plain n) ≡ false
+    → let o = openingAt t i in useOn i (write p n) (lent s t) ≡ usedOut s t i o (writeVerdict t o p false false n)
+unfolding writeVerdict
+fitting-used s t i w p n fits = use-used s t i w (write p n) ∙ ap (λ (b : Bool). usedOut s t i (openingAt t i) (writeVerdict t (openingAt t i) p false b n)) fits
+
 module _ (s t : List ℕ) (i : ℕ) (w : Standing (length s) t i) where
   pub known : Known t (openingAt t i)
   known = standing-known s t i w (openingAt t i) refl
 
   -- ---- into a segment that the opening holds alone
 
-  put-steps : (p : ℕ) (g : Segment) → Own t (openingAt t i) p g → (n : ℕ)
+  put-steps : (p : ℕ) (g : Segment) → Own t (openingAt t i) p g → (n : ℕ) → tooWide (openingAt t i .species) (Plain n) ≡ false
       → let o = openingAt t i in Steps i p (write p n) s t 0 (putElement s (o .species) g (position (valueOf o p)) n)
-  unfolding settled writeVerdict
-  put-steps p g a n =
+  unfolding settled
+  put-steps p g a n fits =
       let o = openingAt t i in
       record {
-        outcome = use-used s t i w (write p n)
-            ∙ sym (carry-put t o p (Put g) (own-planned t o known g p a) s i n known g (settled s t i o p n g) refl refl);
+        outcome = fitting-used s t i w p n fits
+            ∙ sym (carry-put t o p false false (Put g) (own-planned t o known g p a) s i n known g (settled s t i o p n g) refl refl);
       }
 
 module _ (s t : List ℕ) (i : ℕ) (w : Standing (length s) t i) where
   module _ (p : ℕ) (g : Segment) (a : Own t (openingAt t i) p g) (l : List ℕ) (k : ℕ) (few : k ≤ length l)
-      (f : let o = openingAt t i in Ahead (o .species) (valueOf o p) (limitOf o p) k) where
+      (fit : (j : ℕ) → j < k → Fits (openingAt t i .species) l j) (f : let o = openingAt t i in Ahead (o .species) (valueOf o p) (limitOf o p) k) where
     o : Opening
     o = openingAt t i
 
@@ -78,7 +89,8 @@ module _ (s t : List ℕ) (i : ℕ) (w : Standing (length s) t i) where
         let next : putElement (store j) (openingAt (tables j) i .species) g (position (valueOf (openingAt (tables j) i) p)) n ≡ store (j + 1) =
         (λ z. putElement (store j) (there z .species) g (position (at z)) n) ∙ ap store (sym (add-one j)) in
         subst (λ (c : Act). Steps i p c (store j) (tables j) 0 (store (j + 1))) (sym (map-at (write p) l j 0 reset (omega arith)))
-        (subst (λ (c : List ℕ). Steps i p (write p n) (store j) (tables j) 0 c) next (put-steps (store j) (tables j) i q p g own n))
+        (subst (λ (c : List ℕ). Steps i p (write p n) (store j) (tables j) 0 c) next
+        (put-steps (store j) (tables j) i q p g own n (ap (λ (y : Opening). tooWide (y .species) (Plain n)) there ∙ fit j lt)))
 
     pub put-goes : let o = openingAt t i in
         Goes i (writesOf p l) s t (tab k (λ j. 0)) (putFirst s (o .species) g (valueOf o p) l k) (putOpening t i (pointed o p (position (valueOf o p + k))))

@@ -1,7 +1,7 @@
 // The call that writes a run of elements: turn by turn, each as far as a segment goes.
 ghost use mathlib.Core.Path.{_≡_};
 ghost use mathlib.Core.Option.{some};
-ghost use Prim.Native.Nat.{_≤_};
+ghost use Prim.Native.Nat.{_≤_, _<_};
 ghost use lib.ListN.{length};
 ghost use Rattle.combine.specs.Run.{admitted};
 ghost use Rattle.rules.specs.Calls.{writes};
@@ -13,7 +13,9 @@ ghost use Rattle.cells.specs.Runs.{written, writtenBy};
 ghost use Rattle.gate_laws.specs.Standing.{Standing};
 ghost use Rattle.run_laws.specs.Singles.{usesOn, writesOf};
 ghost use Rattle.write_plan.specs.declared.Plan.the-variants.{Drop};
-ghost use Rattle.call_write_run.specs.Turned.{Decided, Turned, wrote};
+ghost use Rattle.tables.specs.Fields.{valueOf};
+ghost use Rattle.opening_laws.specs.Back.{OpenFile};
+ghost use Rattle.call_write_run.specs.Turned.{Decided, Leave, Turned, wrote};
 use answers::Answer;
 use answers::Refusal;
 use gate::Gate;
@@ -34,16 +36,39 @@ fn single(
     opening: Opening,
     pointer: u32,
     list: &[u32],
+    wide: bool,
     plan: Plan,
 ) -> Turn
-    requires { ⌜ Decided (now store) (now tables) entry opening pointer (now list) plan ⌝ }
+    requires { ⌜ Decided (now store) (now tables) entry opening pointer (now list) wide plan ⌝ }
     ensures { λ r. ⌜ Turned entry pointer (now (list .entry)) (now (store .entry)) (now (tables .entry)) r (now (store .exit)) (now (tables .exit)) ⌝ }
 {
-    let answer = call_write::carry(store, tables, entry, opening, pointer, list[0], plan);
+    let answer = call_write::carry(
+        store,
+        tables,
+        entry,
+        opening,
+        pointer,
+        false,
+        wide,
+        list[0],
+        plan,
+    );
     match answer {
         Answer::Refused(why) => Turn::Stopped(why),
         Answer::Done(_told) => Turn::Went(1),
     }
+}
+
+// How many elements leave the first stretch, so that one stays there: as many as the list has numbers before the first that is too wide.
+fn how_many_leave(opening: Opening, list: &[u32]) -> usize
+    requires { ⌜ OpenFile opening × (valueOf opening 0 < valueOf opening 1) ⌝ }
+    ensures { λ r. ⌜ Leave opening (now (list .entry)) r ⌝ }
+{
+    let begin = opening.value(0);
+    let end = opening.value(1);
+    let ahead = run_spans::ahead(opening.species, begin, end);
+    let left = run_spans::fewer(ahead - 1, list.len());
+    run_spans::fitting(opening.species, list, left)
 }
 
 // "Through 0: the first element is dropped, no segment is taken and no store cell changes.": as many as leave an element in the first
@@ -55,18 +80,17 @@ fn drop_stretch(
     opening: Opening,
     pointer: u32,
     list: &[u32],
+    wide: bool,
     plan: Plan,
 ) -> Turn
-    requires { ⌜ Decided (now store) (now tables) entry opening pointer (now list) plan × (plan ≡ Drop) ⌝ }
+    requires { ⌜ Decided (now store) (now tables) entry opening pointer (now list) wide plan × (plan ≡ Drop) ⌝ }
     ensures { λ r. ⌜ Turned entry pointer (now (list .entry)) (now (store .entry)) (now (tables .entry)) r (now (store .exit)) (now (tables .exit)) ⌝ }
 {
-    let begin = opening.value(0);
-    let end = opening.value(1);
-    let ahead = run_spans::ahead(opening.species, begin, end);
-    let count = run_spans::fewer(ahead - 1, list.len());
+    let count = how_many_leave(opening, list);
     if count == 0 {
-        return single(store, tables, entry, opening, pointer, list, plan);
+        return single(store, tables, entry, opening, pointer, list, wide, plan);
     }
+    let begin = opening.value(0);
     let after = opening.step(0, run_spans::on_by(begin, count));
     tables_openings::put_opening(tables, entry, after);
     Turn::Went(count)
@@ -78,14 +102,15 @@ fn advance(store: &mut [u32], tables: &mut [u32], entry: usize, pointer: u32, li
     ensures { λ r. ⌜ Turned entry pointer (now (list .entry)) (now (store .entry)) (now (tables .entry)) r (now (store .exit)) (now (tables .exit)) ⌝ }
 {
     let opening = tables_openings::load_opening(tables, entry);
-    let plan = write_plan::decide(tables, opening, pointer);
+    let wide = numbers::is_too_wide_plain(opening.species, list[0]);
+    let plan = write_plan::decide(tables, opening, pointer, false, wide);
     match plan {
         Plan::Put(own) => {
             let count = run_puts::put_stretch(store, tables, entry, opening, pointer, own, list);
             Turn::Went(count)
         }
-        Plan::Drop => drop_stretch(store, tables, entry, opening, pointer, list, plan),
-        _ => single(store, tables, entry, opening, pointer, list, plan),
+        Plan::Drop => drop_stretch(store, tables, entry, opening, pointer, list, wide, plan),
+        _ => single(store, tables, entry, opening, pointer, list, wide, plan),
     }
 }
 
@@ -118,7 +143,7 @@ fn run_on<'l>(
     &list[n..]
 }
 
-// The run behind the gate: "a list of length 0 still gets refusals 20, 1, 2, 4, 5 where they apply": 4 and 5.
+// The run behind the gate: "a list of length 0 still gets refusals 20, 1, 2, 4, 5 where they apply": 4 and 5; and 19 before them, for species 6.
 fn admit<'l>(
     store: &mut [u32],
     tables: &mut [u32],
@@ -131,8 +156,14 @@ fn admit<'l>(
     ensures { λ r. ⌜ written (now r) (now (place .exit)) (lent (now (store .exit)) (now (tables .exit))) ≡ wrote (now (list .entry)) 0 (admitted (lent (now (store .entry)) (now (tables .entry))) (admits (writes pointer (now (list .entry))) (some (handleIn (openingAt (now (tables .entry)) entry)))) (usesOn entry (writesOf pointer (now (list .entry))) (lent (now (store .entry)) (now (tables .entry))))) ⌝ }
 {
     let opening = tables_openings::load_opening(tables, entry);
+    let foreign = numbers::is_foreign(false, opening.species);
     let value = opening.value(pointer);
-    if value.is_none() {
+    let none = value.is_none();
+    if foreign {
+        *place = answers::number(Refusal::Species);
+        return list;
+    }
+    if none {
         *place = answers::number(Refusal::Pointer);
         return list;
     }

@@ -1,4 +1,4 @@
--- A run at the gate and behind it: "a list of length 0 still gets refusals 20, 1, 2, 4, 5 where they apply". r is a run, s the store's cells, t the
+-- A run at the gate and behind it: "a list of length 0 still gets refusals 20, 1, 2, 4, 5 where they apply", and 19. r is a run, s the store's cells, t the
 -- tables', u a user, e an entry, i the entry of 32. Assumes nothing.
 use Prim.Native.Nat.{ℕ, _%_, _≤_, _<_}
 use mathlib.Core.Path.{_≡_, refl, sym, ap, _∙_}
@@ -17,8 +17,9 @@ use Rattle.combine.specs.laws.Lists.{tab-at}
 use Rattle.combine.specs.laws.Run.{run-map}
 use Rattle.combine.specs.laws.Verdict.{refused-here, went-on}
 use Rattle.answers.specs.declared.Refusal.{Refusal}
-use Rattle.answers.specs.declared.Refusal.the-variants.{User, Entry, Tables, Pointer, Permit}
+use Rattle.answers.specs.declared.Refusal.the-variants.{User, Entry, Tables, Species, Pointer, Permit}
 use Rattle.answers.specs.Said.{refusalNumber}
+use Rattle.numbers.specs.Numbers.{isForeign}
 use Rattle.placing.specs.Sizes.{greatestUser, greatestEntry, entries, entryOf, userOf}
 use Rattle.rules.specs.Calls.{Request, Act, uses, write, next, Run, writes, fills}
 use Rattle.rules.specs.Headings.{value, handleOf}
@@ -143,11 +144,16 @@ module _ (r : Run) (s t : List ℕ) (u e : ℕ) (g : Gate) (eg : g ≡ reachOf (
   pub run-behind : (i : ℕ) → g ≡ At i → runOut r s t u e ≡ admitted (lent s t) (admits r (some (handleIn (openingAt t i)))) (usesOn i (actsOf r) (lent s t))
   run-behind i at = reached-run r s t u e i (reaches s t u e g eg i at)
 
--- ---- 4 and 5, by the opening o that was loaded: v is the pointer's value, and q what the run comes to where it is admitted
+-- ---- 19, 4 and 5, by the opening o that was loaded: f says that its species is signed, v is the pointer's value, and q what the run comes to where it
+-- is admitted
 
-module _ (t : List ℕ) (i : ℕ) (o : Opening) (eo : o ≡ openingAt t i) (p v : ℕ) (ev : v ≡ valueOf o p) (b : Bool) (eb : b ≡ eqb v 0) (needs : Bool) (x : Lent) (q : Ran Lent) where
+module _ (t : List ℕ) (i : ℕ) (o : Opening) (eo : o ≡ openingAt t i) (f : Bool) (ef : f ≡ isForeign false (o .species)) (p v : ℕ) (ev : v ≡ valueOf o p) (b : Bool) (eb : b ≡ eqb v 0)
+    (needs : Bool) (x : Lent) (q : Ran Lent) where
   abbrev gated : Ran Lent
-  gated = admitted x (pointerGate p needs (handleIn (openingAt t i)) (done 0)) q
+  gated = admitted x (pointerGate false p needs (handleIn (openingAt t i)) (done 0)) q
+
+  kind-is : isForeign false (openingAt t i .species) ≡ f
+  kind-is = ap (λ (y : Opening). isForeign false (y .species)) (sym eo) ∙ sym ef
 
   none-is : eqb (value (handleIn (openingAt t i)) p) 0 ≡ b
   none-is = ap (λ (n : ℕ). eqb n 0) (value-in (openingAt t i) p ∙ ap (λ (y : Opening). valueOf y p) (sym eo) ∙ sym ev) ∙ sym eb
@@ -155,19 +161,24 @@ module _ (t : List ℕ) (i : ℕ) (o : Opening) (eo : o ≡ openingAt t i) (p v 
   permit-is : eqb (openingAt t i .permit) 1 ≡ eqb (o .permit) 1
   permit-is = ap (λ (y : Opening). eqb (y .permit) 1) (sym eo)
 
-  pub no-pointer : b ≡ true → admitted x (pointerGate p needs (handleIn (openingAt t i)) (done 0)) q ≡ ran 0 (refusalNumber Pointer) [] x
-  no-pointer z = ap (λ (y : Said). admitted x y q) (refused-here 4 _ _ (none-is ∙ z))
+  pub no-kind : f ≡ true → admitted x (pointerGate false p needs (handleIn (openingAt t i)) (done 0)) q ≡ ran 0 (refusalNumber Species) [] x
+  no-kind k = ap (λ (y : Said). admitted x y q) (refused-here 19 _ _ (kind-is ∙ k))
 
-  module _ (there : b ≡ false) where
-    pub no-permit : needs ≡ true → o .permit ≢ 1 → admitted x (pointerGate p needs (handleIn (openingAt t i)) (done 0)) q ≡ ran 0 (refusalNumber Permit) [] x
-    no-permit n d =
-        ap (λ (y : Said). admitted x y q) (went-on 4 _ _ _ (none-is ∙ there) (refused-here 5 _ _ (both n (ap not (permit-is ∙ ne-eqb (o .permit) 1 d)))))
+  module _ (kind : f ≡ false) where
+    pub no-pointer : b ≡ true → admitted x (pointerGate false p needs (handleIn (openingAt t i)) (done 0)) q ≡ ran 0 (refusalNumber Pointer) [] x
+    no-pointer z = ap (λ (y : Said). admitted x y q) (went-on 19 _ _ _ (kind-is ∙ kind) (refused-here 4 _ _ (none-is ∙ z)))
 
-    let-in : (needs && not (eqb (openingAt t i .permit) 1)) ≡ false → gated ≡ q
-    let-in h = ap (λ (y : Said). admitted x y q) (went-on 4 _ _ _ (none-is ∙ there) (went-on 5 _ _ _ h refl))
+    module _ (there : b ≡ false) where
+      pub no-permit : needs ≡ true → o .permit ≢ 1 → admitted x (pointerGate false p needs (handleIn (openingAt t i)) (done 0)) q ≡ ran 0 (refusalNumber Permit) [] x
+      no-permit n d =
+          ap (λ (y : Said). admitted x y q)
+          (went-on 19 _ _ _ (kind-is ∙ kind) (went-on 4 _ _ _ (none-is ∙ there) (refused-here 5 _ _ (both n (ap not (permit-is ∙ ne-eqb (o .permit) 1 d))))))
 
-    pub works-on : o .permit ≡ 1 → admitted x (pointerGate p needs (handleIn (openingAt t i)) (done 0)) q ≡ q
-    works-on h = let-in (bad-right needs _ (ap not (permit-is ∙ eq-eqb (o .permit) 1 h)))
+      let-in : (needs && not (eqb (openingAt t i .permit) 1)) ≡ false → gated ≡ q
+      let-in h = ap (λ (y : Said). admitted x y q) (went-on 19 _ _ _ (kind-is ∙ kind) (went-on 4 _ _ _ (none-is ∙ there) (went-on 5 _ _ _ h refl)))
 
-    pub reads-on : needs ≡ false → admitted x (pointerGate p needs (handleIn (openingAt t i)) (done 0)) q ≡ q
-    reads-on n = let-in (bad-left needs _ n)
+      pub works-on : o .permit ≡ 1 → admitted x (pointerGate false p needs (handleIn (openingAt t i)) (done 0)) q ≡ q
+      works-on h = let-in (bad-right needs _ (ap not (permit-is ∙ eq-eqb (o .permit) 1 h)))
+
+      pub reads-on : needs ≡ false → admitted x (pointerGate false p needs (handleIn (openingAt t i)) (done 0)) q ≡ q
+      reads-on n = let-in (bad-left needs _ n)

@@ -4,7 +4,7 @@ use mathlib.Core.Path.{_≡_, refl, sym, ap, _∙_}
 use mathlib.Core.List.{List}
 use native.Mathlib.Numerals.{add-one}
 use native.Mathlib.Omega.{arith}
-use lib.ListN.{getD, set}
+use lib.ListN.{length, getD, set}
 use Rattle.packing.specs.Packing.{putBits}
 use Rattle.placing.specs.declared.Segment.{Segment}
 use Rattle.placing.specs.declared.Position.{Position}
@@ -14,10 +14,11 @@ use Rattle.tables.specs.declared.Opening.{Opening}
 use Rattle.tables.specs.Layout.{positionNumber, putOpening}
 use Rattle.tables.specs.Fields.{valueOf}
 use Rattle.tables.specs.Handles.{pointed}
-use Rattle.run_spans.specs.Ahead.{Ahead, Follow, Fewer}
+use Rattle.run_spans.specs.Ahead.{Ahead, Follow, Fewer, Fits, Fitting}
+use Rattle.run_spans.specs.laws.Ahead.{fitting-fewer}
 use Rattle.run_spans.specs.Bits.{Row}
 use Rattle.run_spans.specs.laws.Bits.{row-starts, row-goes-on, row-lies, row-few, put-is, stretch-row}
-use Rattle.run_puts.specs.Puts.{putFirst, putRow, limitOf}
+use Rattle.run_puts.specs.Puts.{putFirst, putRow, limitOf, Many}
 use Rattle.run_puts.specs.laws.Limits.{limit-end, limit-other}
 
 -- ---- the loop: s is the store where j elements are put, a the bits before the next
@@ -70,19 +71,33 @@ pub ruleset alls = (all-lie, all-put)
 -- ---- a stretch: v is the pointer's value, and k elements are put
 
 module _ (o : Opening) (p : ℕ) (v : Position) (ev : v .0 ≡ valueOf o p) (k : ℕ) where
-  -- e is the first position that the pointer does not write at, m positions lie ahead, n elements are left
-  pub stretch-ahead : (e : Position) → e .0 ≡ limitOf o p → (m : ℕ) → Ahead (o .species) (v .0) (e .0) m → (n : ℕ) → Fewer m n k → 1 ≤ n → Ahead (o .species) (valueOf o p) (limitOf o p) k
-  stretch-ahead e ee m a n f h =
+  -- e is the first position that the pointer does not write at, m positions lie ahead, and of n of the list's elements k fit
+  pub stretch-many : (e : Position) → e .0 ≡ limitOf o p → (m : ℕ) → Ahead (o .species) (v .0) (e .0) m → (l : List ℕ) (n : ℕ) → Fewer m (length l) n → Fitting (o .species) l n k
+      → 1 ≤ length l → Fits (o .species) l 0 → Many o p l k
+  stretch-many e ee m a l n few fitting some first =
+      let f = fitting-fewer (o .species) l m (length l) n k few fitting first in
       let b = a .before in
       let c = f .first in
       record {
-        some = f .some (a .some) h;
-        before = omega arith;
-        same = λ j q. ap (λ (x : ℕ). stretchOf (o .species) (x + j)) (sym ev) ∙ a .same j (omega arith) ∙ ap (stretchOf (o .species)) ev;
+        few = f .second;
+        fit = fitting .fit;
+        ahead = record {
+          some = f .some (a .some) some;
+          before = omega arith;
+          same = λ j q. ap (λ (x : ℕ). stretchOf (o .species) (x + j)) (sym ev) ∙ a .same j (omega arith) ∙ ap (stretchOf (o .species)) ev;
+        };
       }
 
-  pub stretch-follows : (e : Position) (m : ℕ) → Ahead (o .species) (v .0) (e .0) m → (n : ℕ) → Fewer m n k → Follow (o .species) (v .0) k
-  stretch-follows e m a n f = record { same = λ j q. a .same j (let c = f .first in omega (arith, q)) }
+  module _ (l : List ℕ) (a : Many o p l k) where
+    pub stretch-follows : Follow (o .species) (v .0) k
+    stretch-follows =
+        record { same = λ j q. ap (λ (x : ℕ). stretchOf (o .species) (x + j)) ev ∙ a .ahead .same j q ∙ sym (ap (stretchOf (o .species)) ev) }
+
+    pub stretch-few : k ≤ length l
+    stretch-few = a .few
+
+    pub stretch-fits : limitOf o p ≤ greatestEnd → v .0 + k ≤ greatestEnd
+    stretch-fits h = let b = a .ahead .before in omega arith
 
   pub stretch-store : (s : List ℕ) (g : Segment) (l s′ : List ℕ) → s′ ≡ putFirst s (o .species) g (v .0) l k → s′ ≡ putFirst s (o .species) g (valueOf o p) l k
   stretch-store s g l s′ e = e ∙ ap (λ (x : ℕ). putFirst s (o .species) g x l k) ev
@@ -93,4 +108,4 @@ module _ (o : Opening) (p : ℕ) (v : Position) (ev : v .0 ≡ valueOf o p) (k :
       let at : x .0 ≡ valueOf o p + k = ex ∙ ap (λ (n : ℕ). n + k) ev in
       et ∙ ap (putOpening t i) (em ∙ ap (λ (n : ℕ). pointed o p (position n)) at)
 
-pub ruleset stretches = (stretch-store, stretch-tables)
+pub ruleset stretches = (stretch-follows, stretch-few, stretch-fits, stretch-store, stretch-tables)

@@ -15,7 +15,7 @@ use Rattle.tables.specs.declared.Opening.{Opening}
 use Rattle.tables.specs.Layout.{putOpening}
 use Rattle.tables.specs.Fields.{valueOf}
 use Rattle.tables.specs.Handles.{pointed}
-use Rattle.run_spans.specs.Ahead.{Ahead}
+use Rattle.run_spans.specs.Ahead.{Ahead, Fits}
 
 -- the store with so many elements of the list put, from the first position on, all into segment g
 unfoldable pub putFirst : (store : Cells) (species : ℕ) → Segment → (first : ℕ) (list : List ℕ) (many : ℕ) → Cells
@@ -42,9 +42,14 @@ pub record Points (o : Opening) (p : ℕ) : Type 0 where
   pub below : valueOf o p < limitOf o p
   pub fits : limitOf o p ≤ greatestEnd
 
--- k elements of the list are put into segment g, and the pointer moves once
-pub record Stretched (s t : Cells) (i : ℕ) (o : Opening) (p : ℕ) (g : Segment) (l : List ℕ) (k : ℕ) (s′ t′ : Cells) : Type 0 where
+-- k elements of the list, none too wide, go into the stretch of the pointer's position
+pub record Many (o : Opening) (p : ℕ) (l : List ℕ) (k : ℕ) : Type 0 where
   pub few : k ≤ length l
+  pub fit : (j : ℕ) → j < k → Fits (o .species) l j
   pub ahead : Ahead (o .species) (valueOf o p) (limitOf o p) k
+
+-- they are put into segment g, and the pointer moves once
+pub record Stretched (s t : Cells) (i : ℕ) (o : Opening) (p : ℕ) (g : Segment) (l : List ℕ) (k : ℕ) (s′ t′ : Cells) : Type 0 where
+  pub many : Many o p l k
   pub store : s′ ≡ putFirst s (o .species) g (valueOf o p) l k
   pub tables : t′ ≡ putOpening t i (pointed o p (position (valueOf o p + k)))

@@ -3,9 +3,9 @@ ghost use mathlib.Core.Path.{_≡_};
 ghost use Prim.Native.Nat.{_+_, _*_, _≤_, _<_};
 ghost use lib.ListN.{length};
 ghost use Rattle.placing.specs.Sizes.{segmentCells, greatestSpecies, tablesLength, entries};
-ghost use Rattle.run_spans.specs.Ahead.{Follow};
+ghost use Rattle.run_spans.specs.Ahead.{Follow, Fits};
 ghost use Rattle.run_spans.specs.Bits.{Row};
-ghost use Rattle.run_puts.specs.Puts.{putRow, putFirst, limitOf, Points, Stretched};
+ghost use Rattle.run_puts.specs.Puts.{putRow, putFirst, limitOf, Points, Many, Stretched};
 use placing::GREATEST_END;
 use placing::Position;
 use placing::Segment;
@@ -61,7 +61,19 @@ fn limit(opening: Opening, pointer: u32) -> Position
     opening.value(1)
 }
 
-// As many elements of the list as go into the segment that the opening holds for the pointer's position: how many.
+// How many elements of the list go into the stretch of the pointer's position, up to the first that is too wide.
+fn how_many(opening: Opening, pointer: u32, list: &[u32]) -> usize
+    requires { ⌜ Points opening pointer × (1 ≤ length (now list)) × Fits (opening .species) (now list) 0 ⌝ }
+    ensures { λ r. ⌜ Many opening pointer (now (list .entry)) r ⌝ }
+{
+    let value = opening.value(pointer);
+    let beyond = limit(opening, pointer);
+    let most = run_spans::ahead(opening.species, value, beyond);
+    let left = run_spans::fewer(most, list.len());
+    run_spans::fitting(opening.species, list, left)
+}
+
+// So many elements of the list go into the segment that the opening holds for the pointer's position: how many.
 pub fn put_stretch(
     store: &mut [u32],
     tables: &mut [u32],
@@ -71,13 +83,11 @@ pub fn put_stretch(
     own: Segment,
     list: &[u32],
 ) -> usize
-    requires { ⌜ (length (now tables) ≡ tablesLength) × (entry < entries) × (own .0 * segmentCells + segmentCells ≤ length (now store)) × Points opening pointer × (1 ≤ length (now list)) ⌝ }
+    requires { ⌜ (length (now tables) ≡ tablesLength) × (entry < entries) × (own .0 * segmentCells + segmentCells ≤ length (now store)) × Points opening pointer × (1 ≤ length (now list)) × Fits (opening .species) (now list) 0 ⌝ }
     ensures { λ r. ⌜ Stretched (now (store .entry)) (now (tables .entry)) entry opening pointer own (now (list .entry)) r (now (store .exit)) (now (tables .exit)) ⌝ }
 {
     let value = opening.value(pointer);
-    let beyond = limit(opening, pointer);
-    let most = run_spans::ahead(opening.species, value, beyond);
-    let count = run_spans::fewer(most, list.len());
+    let count = how_many(opening, pointer, list);
     put_all(store, opening.species, own, value, list, count);
     let after = opening.step(pointer, run_spans::on_by(value, count));
     tables_openings::put_opening(tables, entry, after);

@@ -1,6 +1,11 @@
--- Positions of one stretch, one after another. Assumes nothing.
+-- Positions of one stretch, one after another, and how many elements of a list go there. Assumes nothing.
 use Prim.Native.Nat.{ℕ, _+_, _≤_, _<_}
 use mathlib.Core.Path.{_≡_}
+use mathlib.Core.Bool.{false}
+use mathlib.Core.List.{List}
+use lib.ListN.{getD}
+use Rattle.numbers.specs.declared.Number.the-variants.{Plain}
+use Rattle.numbers.specs.Numbers.{tooWide}
 use Rattle.placing.specs.Placing.{stretchOf}
 
 -- so many positions from the first on are of its stretch, and come before another
@@ -18,3 +23,13 @@ pub record Fewer (a b many : ℕ) : Type 0 where
   pub first : many ≤ a
   pub second : many ≤ b
   pub some : 1 ≤ a → 1 ≤ b → 1 ≤ many
+
+-- number j of a list is not too wide for the species
+abbrev pub Fits : (species : ℕ) (list : List ℕ) (j : ℕ) → Type 0
+Fits s l j = tooWide s (Plain (getD l j 0)) ≡ false
+
+-- of so many numbers of a list, those before the first that is too wide
+pub record Fitting (species : ℕ) (list : List ℕ) (most many : ℕ) : Type 0 where
+  pub few : many ≤ most
+  pub fit : (j : ℕ) → j < many → Fits species list j
+  pub some : 1 ≤ most → Fits species list 0 → 1 ≤ many

@@ -1,9 +1,9 @@
 -- The call `write`: what a plan says of the verdict, and that it can be carried out. Assumes nothing.
 use Prim.Native.Nat.{ℕ, _+_, _≤_, _<_}
 use mathlib.Core.Path.{_≡_}
-use mathlib.Core.Bool.{false, _&&_, not}
+use mathlib.Core.Bool.{Bool, false, _&&_, not, cond}
 use mathlib.Core.List.{List}
-use lib.Dec.{leb, ltb}
+use lib.Dec.{leb, ltb, eqb}
 use lib.ListN.{getD}
 use Rattle.combine.specs.Verdict.{Verdict, refused, done, refuse_when_else_}
 use Rattle.answers.specs.Said.{refusalNumber}
@@ -33,11 +33,11 @@ pub record Seats (o : Opening) (p : ℕ) : Type 0 where
   pub listed : slotOf (o .species) (valueOf o 0) (valueOf o p) ≤ heldOf (o .species) (valueOf o 0) (valueOf o 1)
   pub small : slotOf (o .species) (valueOf o 0) (valueOf o p) < mostHeld
 
--- ---- the verdict: "for a pointer call 4, 5, 6, 7, 10, 8, 9", and its last parts
+-- ---- the verdict: "for a pointer call 4, 5, 6, 7, 10, 8, 9", with 19 before and 23 between, and its last parts
 
--- the write of n through pointer p
-unfoldable pub writeVerdict : List ℕ → Opening → ℕ → ℕ → Verdict Use
-writeVerdict t o p n = writeRule p n (takesAt (houseOf t .records) (openingIn o)) (hasRoom (houseOf t)) (handleIn o)
+-- the write of the bits n through pointer p, of a number of its kind that is too wide or not
+unfoldable pub writeVerdict : List ℕ → Opening → ℕ → (signed wide : Bool) → ℕ → Verdict Use
+writeVerdict t o p k w n = writeRule p k w n (takesAt (houseOf t .records) (openingIn o)) (hasRoom (houseOf t)) (handleIn o)
 
 -- "no room: a segment needed, none free" is 9
 unfoldable pub seatVerdict : List ℕ → Opening → ℕ → ℕ → Verdict Use
@@ -46,13 +46,22 @@ seatVerdict t o p n =
     refuse 9 when takesAt (houseOf t .records) (openingIn o) v && not (hasRoom (houseOf t)) else
     done (does (plain 0) (moved (handleIn o) p (v + 1)) (stores v n))
 
--- "Through 1: append": 10 and 8 come before
-unfoldable pub appendVerdict : List ℕ → Opening → ℕ → Verdict Use
-appendVerdict t o n =
+-- "Through 1: append": 23, 10 and 8 come before
+unfoldable pub appendVerdict : List ℕ → Opening → (wide : Bool) → ℕ → Verdict Use
+appendVerdict t o w n =
     let e = valueOf o 1 in
+    refuse 23 when w else
     refuse 10 when leb greatestEnd e else
     refuse 8 when ltb mostHeld (heldOf (o .species) (valueOf o 0) (e + 1)) else
     seatVerdict t o 1 n
+
+-- through another pointer: 7 and 23 come before, and through 0 the first element is dropped
+unfoldable pub insideVerdict : List ℕ → Opening → ℕ → (wide : Bool) → ℕ → Verdict Use
+insideVerdict t o p w n =
+    let v = valueOf o p in
+    refuse 7 when leb (valueOf o 1) v else
+    refuse 23 when w else
+    cond (eqb p 0) (done (does (plain 0) (moved (handleIn o) p (v + 1)) firstLeaves)) (seatVerdict t o p n)
 
 -- ---- a plan
 

@@ -2,9 +2,10 @@
 ghost use mathlib.Core.Path.{_≡_};
 ghost use Prim.Native.Nat.{_≤_};
 ghost use Rattle.placing.specs.Sizes.{mostHeld};
+ghost use Rattle.tables.specs.Fields.{valueOf};
 ghost use Rattle.opening_laws.specs.Shared.{listsNumber, sharesNumber};
 ghost use Rattle.gate_laws.specs.Known.{Known};
-ghost use Rattle.write_plan.specs.Plans.{Seats, writeVerdict, seatVerdict, appendVerdict, Planned};
+ghost use Rattle.write_plan.specs.Plans.{Seats, writeVerdict, seatVerdict, appendVerdict, insideVerdict, Planned};
 use answers::Refusal;
 use placing::LIST_LENGTH;
 use placing::MOST_HELD;
@@ -85,13 +86,17 @@ fn seat(tables: &[u32], opening: Opening, pointer: u32) -> Plan
     Plan::Copy(at, own, free)
 }
 
-// "Through 1: append, e grows by 1.": "An append refused for 10: e is 16,777,215."
-fn append(tables: &[u32], opening: Opening) -> Plan
+// "Through 1: append, e grows by 1.": "An append refused for 10: e is 16,777,215."; a number that is too wide is 23, "before 10".
+fn append(tables: &[u32], opening: Opening, wide: bool) -> Plan
     requires { ⌜ Known (now tables) opening ⌝ }
-    ensures { λ r. ⌜ Planned (now (tables .entry)) opening 1 (appendVerdict (now (tables .entry)) opening) r ⌝ }
+    ensures { λ r. ⌜ Planned (now (tables .entry)) opening 1 (appendVerdict (now (tables .entry)) opening wide) r ⌝ }
 {
     let end = opening.value(1);
-    if end.is_last() {
+    let last = end.is_last();
+    if wide {
+        return Plan::No(Refusal::Wide);
+    }
+    if last {
         return Plan::No(Refusal::Positions);
     }
     let longer = opening.step(1, end.after());
@@ -101,13 +106,39 @@ fn append(tables: &[u32], opening: Opening) -> Plan
     seat(tables, opening, 1)
 }
 
-// "Write: v < b is 6; p not 1 and v >= e is 7."; "Write always .. need the work permit."
-pub fn decide(tables: &[u32], opening: Opening, pointer: u32) -> Plan
-    requires { ⌜ Known (now tables) opening ⌝ }
-    ensures { λ r. ⌜ Planned (now (tables .entry)) opening pointer (writeVerdict (now (tables .entry)) opening pointer) r ⌝ }
+// "p not 1 and v >= e is 7"; a number that is too wide is 23, "after 7 .., through any pointer": through 0 too, where none is stored.
+fn inside(tables: &[u32], opening: Opening, pointer: u32, wide: bool) -> Plan
+    requires { ⌜ Known (now tables) opening × (valueOf opening 0 ≤ valueOf opening pointer) ⌝ }
+    ensures { λ r. ⌜ Planned (now (tables .entry)) opening pointer (insideVerdict (now (tables .entry)) opening pointer wide) r ⌝ }
 {
     let value = opening.value(pointer);
-    if value.is_none() {
+    let end = opening.value(1);
+    let first = pointer == 0;
+    if end.is_at_most(value) {
+        return Plan::No(Refusal::Beyond);
+    }
+    if wide {
+        return Plan::No(Refusal::Wide);
+    }
+    if first {
+        return Plan::Drop;
+    }
+    seat(tables, opening, pointer)
+}
+
+// "Write: v < b is 6"; "Write always .. need the work permit."; document 02, P5: the other kind's species is 19, "after 2 and before 4". The plan serves
+// all bits of a number that is too wide or not.
+pub fn decide(tables: &[u32], opening: Opening, pointer: u32, signed: bool, wide: bool) -> Plan
+    requires { ⌜ Known (now tables) opening ⌝ }
+    ensures { λ r. ⌜ Planned (now (tables .entry)) opening pointer (writeVerdict (now (tables .entry)) opening pointer signed wide) r ⌝ }
+{
+    let foreign = numbers::is_foreign(signed, opening.species);
+    let value = opening.value(pointer);
+    let none = value.is_none();
+    if foreign {
+        return Plan::No(Refusal::Species);
+    }
+    if none {
         return Plan::No(Refusal::Pointer);
     }
     if opening.permit != 1 {
@@ -118,14 +149,7 @@ pub fn decide(tables: &[u32], opening: Opening, pointer: u32) -> Plan
         return Plan::No(Refusal::Below);
     }
     if pointer == 1 {
-        return append(tables, opening);
+        return append(tables, opening, wide);
     }
-    let end = opening.value(1);
-    if end.is_at_most(value) {
-        return Plan::No(Refusal::Beyond);
-    }
-    if pointer == 0 {
-        return Plan::Drop;
-    }
-    seat(tables, opening, pointer)
+    inside(tables, opening, pointer, wide)
 }

@@ -34,7 +34,7 @@ with-segment-requires c κs = search carries
 settle-requires-2 : tie.Need-settle-requires-2
 settle-requires-2 c κs =
     let a = c .before .before .before .before .before .before .before .before .before .before .before .before in
-    let fits = copy-to _ _ _ _ (a .pre .4) _ (a .pre .2) _ _ _ (c .before .before .before .before .before .before .before .before .plan3 .given .1) in
+    let fits = copy-to _ _ _ _ _ _ (a .pre .4) _ (a .pre .2) _ _ _ (c .before .before .before .before .before .before .before .before .plan3 .given .1) in
     (search carries, search carries, omega (arith, fits, c .before .before .before .before .before .copy-segment .kept .0), search carries)
 
 enum-known-plan-4 : tie.Need-enum-known-plan-4
@@ -49,7 +49,7 @@ with-segment-requires-2 c κs = search carries
 settle-requires-3 : tie.Need-settle-requires-3
 settle-requires-3 c κs =
     let a = c .before .before .before .before .before .before .before .before .before .before .before .before in
-    let fits = zero-fits _ _ _ _ (a .pre .4) _ (a .pre .2) _ _ (c .before .before .before .before .before .before .before .before .plan4 .given .1) in
+    let fits = zero-fits _ _ _ _ _ _ (a .pre .4) _ (a .pre .2) _ _ (c .before .before .before .before .before .before .before .before .plan4 .given .1) in
     (search carries, search carries, omega (arith, fits, c .before .before .before .before .before .zero-segment .kept .0), search carries)
 
 returns : tie.Need-returns

@@ -6,8 +6,17 @@ use Rattle.call_write.proofs.write_at.Tie as tie
 load-opening-requires : tie.Need-load-opening-requires
 load-opening-requires c κs = search loaded
 
+is-signed-requires : tie.Need-is-signed-requires
+is-signed-requires c κs = search needs
+
+is-too-wide-requires : tie.Need-is-too-wide-requires
+is-too-wide-requires c κs = search loaded
+
 decide-requires : tie.Need-decide-requires
 decide-requires c κs = search loaded
+
+bits-requires : tie.Need-bits-requires
+bits-requires c κs = search needs
 
 carry-requires : tie.Need-carry-requires
 carry-requires c κs = search loaded
@@ -26,7 +35,10 @@ write-at-spec =
     tie.close
     (tie.spec
     load-opening-requires
+    is-signed-requires
+    is-too-wide-requires
     decide-requires
+    bits-requires
     carry-requires
     same-length
     same-length-2

@@ -7,6 +7,9 @@ use Rattle.call_write_run.proofs.admit.Tie as tie
 load-opening-requires : tie.Need-load-opening-requires
 load-opening-requires c κs = search standing
 
+is-foreign-requires : tie.Need-is-foreign-requires
+is-foreign-requires c κs = search needs
+
 value-requires : tie.Need-value-requires
 value-requires c κs = search needs
 
@@ -31,23 +34,33 @@ same-length-2 c = search needs
 returns-2 : tie.Need-returns-2
 returns-2 c = search admitting
 
-run-on-requires : tie.Need-run-on-requires
-run-on-requires c κs = search needs
+number-requires-3 : tie.Need-number-requires-3
+number-requires-3 c κs = search needs
 
 same-length-3 : tie.Need-same-length-3
 same-length-3 c = search needs
 
+returns-3 : tie.Need-returns-3
+returns-3 c = search admitting
+
+run-on-requires : tie.Need-run-on-requires
+run-on-requires c κs = search needs
+
 same-length-4 : tie.Need-same-length-4
 same-length-4 c = search needs
 
-returns-3 : tie.Need-returns-3
-returns-3 c = search admitting
+same-length-5 : tie.Need-same-length-5
+same-length-5 c = search needs
+
+returns-4 : tie.Need-returns-4
+returns-4 c = search admitting
 
 pub admit-spec : {M : Type 1} → statement M
 admit-spec =
     tie.close
     (tie.spec
     load-opening-requires
+    is-foreign-requires
     value-requires
     is-none-requires
     number-requires
@@ -56,7 +69,10 @@ admit-spec =
     number-requires-2
     same-length-2
     returns-2
-    run-on-requires
+    number-requires-3
     same-length-3
+    returns-3
+    run-on-requires
     same-length-4
-    returns-3)
+    same-length-5
+    returns-4)

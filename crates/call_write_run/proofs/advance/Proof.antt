@@ -1,11 +1,19 @@
 use borrow.Author.Needs.{needs}
-use Rattle.gate_laws.specs.Known.{standing}
-use Rattle.call_write_run.proofs.Turns.{stretch-points, stretch-fits, stretch-turned}
+use Rattle.gate_laws.specs.Standing.{standing-long, standing-entry, standing-fits}
+use Rattle.gate_laws.specs.Known.{standing, standing-known}
+use Rattle.call_write.proofs.Loaded.{standing-species}
+use Rattle.call_write_run.proofs.Turns.{stretch-points, stretch-first, stretch-fits, stretch-turned}
 use Rattle.call_write_run.proofs.advance.Statement.{statement}
 use Rattle.call_write_run.proofs.advance.Tie as tie
 
 load-opening-requires : tie.Need-load-opening-requires
 load-opening-requires c κs = search (standing, needs)
+
+shared-slice-read-is-too-wide-plain : tie.Need-shared-slice-read-is-too-wide-plain
+shared-slice-read-is-too-wide-plain c = search needs
+
+is-too-wide-plain-requires : tie.Need-is-too-wide-plain-requires
+is-too-wide-plain-requires c κs = search standing-species
 
 decide-requires : tie.Need-decide-requires
 decide-requires c κs = search (standing, needs)
@@ -16,7 +24,21 @@ enum-known-plan c = search needs
 put-stretch-requires : tie.Need-put-stretch-requires
 put-stretch-requires c κs =
     let plan = c .before .before .before in
-    (search standing, search standing, search (stretch-fits, standing), stretch-points _ _ _ _ (plan .before .before .decide .ensures) _ (plan .plan .given .1) (search standing), search needs)
+    let decided = plan .before .before in
+    let width = decided .before .before in
+    let loaded = width .before .before in
+    let start = loaded .before .before .before .before .before in
+    let lent = start .args in
+    let pre = start .pre in
+    let known = standing-known (lent .store .now) _ _ (pre .0) _ (loaded .load-opening .ensures) in
+    let here = plan .plan .given .1 in (
+      standing-long (pre .0),
+      standing-entry (pre .0),
+      stretch-fits _ _ _ _ _ (decided .decide .ensures) _ here (lent .store .now) (standing-fits (pre .0)),
+      stretch-points _ _ _ _ _ (decided .decide .ensures) _ here known,
+      pre .1,
+      stretch-first _ _ _ _ _ (decided .decide .ensures) _ here known (lent .list .now) (width .is-too-wide-plain .ensures),
+    )
 
 enum-told : tie.Need-enum-told
 enum-told c = search needs
@@ -59,6 +81,8 @@ advance-spec =
     tie.close
     (tie.spec
     load-opening-requires
+    shared-slice-read-is-too-wide-plain
+    is-too-wide-plain-requires
     decide-requires
     enum-known-plan
     put-stretch-requires

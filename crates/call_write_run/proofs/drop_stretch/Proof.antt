@@ -3,20 +3,8 @@ use Rattle.call_write_run.proofs.Turns.{decided, dropping}
 use Rattle.call_write_run.proofs.drop_stretch.Statement.{statement}
 use Rattle.call_write_run.proofs.drop_stretch.Tie as tie
 
-value-requires : tie.Need-value-requires
-value-requires c κs = search needs
-
-value-requires-2 : tie.Need-value-requires-2
-value-requires-2 c κs = search needs
-
-ahead-requires : tie.Need-ahead-requires
-ahead-requires c κs = search dropping
-
-sub-fewer : tie.Need-sub-fewer
-sub-fewer c = search needs
-
-fewer-requires : tie.Need-fewer-requires
-fewer-requires c κs = search needs
+how-many-leave-requires : tie.Need-how-many-leave-requires
+how-many-leave-requires c κs = search dropping
 
 single-requires : tie.Need-single-requires
 single-requires c κs = search needs
@@ -29,6 +17,9 @@ same-length-2 c = search needs
 
 returns : tie.Need-returns
 returns c = search needs
+
+value-requires : tie.Need-value-requires
+value-requires c κs = search needs
 
 on-by-requires : tie.Need-on-by-requires
 on-by-requires c κs = search dropping
@@ -49,15 +40,12 @@ pub drop-stretch-spec : {M : Type 1} → statement M
 drop-stretch-spec =
     tie.close
     (tie.spec
-    value-requires
-    value-requires-2
-    ahead-requires
-    sub-fewer
-    fewer-requires
+    how-many-leave-requires
     single-requires
     same-length
     same-length-2
     returns
+    value-requires
     on-by-requires
     step-requires
     put-opening-requires

@@ -1,5 +1,5 @@
 use borrow.Author.Needs.{needs}
-use Rattle.write_plan.proofs.Decides.{appends}
+use Rattle.write_plan.proofs.Appends.{appends}
 use Rattle.write_plan.proofs.append.Statement.{statement}
 use Rattle.write_plan.proofs.append.Tie as tie
 
@@ -12,6 +12,9 @@ is-last-requires c κs = search needs
 returns : tie.Need-returns
 returns c = search appends
 
+returns-2 : tie.Need-returns-2
+returns-2 c = search appends
+
 after-requires : tie.Need-after-requires
 after-requires c κs = search needs
 
@@ -21,14 +24,14 @@ step-requires c κs = search needs
 holds-requires : tie.Need-holds-requires
 holds-requires c κs = search appends
 
-returns-2 : tie.Need-returns-2
-returns-2 c = search appends
+returns-3 : tie.Need-returns-3
+returns-3 c = search appends
 
 seat-requires : tie.Need-seat-requires
 seat-requires c κs = search appends
 
-returns-3 : tie.Need-returns-3
-returns-3 c = search appends
+returns-4 : tie.Need-returns-4
+returns-4 c = search appends
 
 pub append-spec : {M : Type 1} → statement M
 append-spec =
@@ -37,9 +40,10 @@ append-spec =
     value-requires
     is-last-requires
     returns
+    returns-2
     after-requires
     step-requires
     holds-requires
-    returns-2
+    returns-3
     seat-requires
-    returns-3)
+    returns-4)

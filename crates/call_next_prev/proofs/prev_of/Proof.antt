@@ -1,7 +1,7 @@
 use borrow.Author.Needs.{needs}
-use Rattle.gate_laws.specs.Gated.{gated}
-use Rattle.call_next_prev.proofs.next.Statement.{statement}
-use Rattle.call_next_prev.proofs.next.Tie as tie
+use Rattle.call_next_prev.proofs.Calls.{gates}
+use Rattle.call_next_prev.proofs.prev_of.Statement.{statement}
+use Rattle.call_next_prev.proofs.prev_of.Tie as tie
 
 reach-requires : tie.Need-reach-requires
 reach-requires c κs = search needs
@@ -12,29 +12,29 @@ enum-known-reached c = search needs
 enum-known-reached-2 : tie.Need-enum-known-reached-2
 enum-known-reached-2 c = search needs
 
-next-at-requires : tie.Need-next-at-requires
-next-at-requires c κs = search gated
+prev-at-requires : tie.Need-prev-at-requires
+prev-at-requires c κs = search gates
 
 same-length : tie.Need-same-length
 same-length c = search needs
 
 returns : tie.Need-returns
-returns c = search gated
+returns c = search gates
 
 same-length-2 : tie.Need-same-length-2
 same-length-2 c = search needs
 
 returns-2 : tie.Need-returns-2
-returns-2 c = search gated
+returns-2 c = search gates
 
-pub next-spec : {M : Type 1} → statement M
-next-spec =
+pub prev-of-spec : {M : Type 1} → statement M
+prev-of-spec =
     tie.close
     (tie.spec
     reach-requires
     enum-known-reached
     enum-known-reached-2
-    next-at-requires
+    prev-at-requires
     same-length
     returns
     same-length-2

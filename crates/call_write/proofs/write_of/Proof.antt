@@ -1,7 +1,7 @@
 use borrow.Author.Needs.{needs}
 use Rattle.call_write.proofs.Loaded.{calls}
-use Rattle.call_write.proofs.write.Statement.{statement}
-use Rattle.call_write.proofs.write.Tie as tie
+use Rattle.call_write.proofs.write_of.Statement.{statement}
+use Rattle.call_write.proofs.write_of.Tie as tie
 
 reach-requires : tie.Need-reach-requires
 reach-requires c κs = search needs
@@ -30,8 +30,8 @@ same-length-3 c = search needs
 returns-2 : tie.Need-returns-2
 returns-2 c = search calls
 
-pub write-spec : {M : Type 1} → statement M
-write-spec =
+pub write-of-spec : {M : Type 1} → statement M
+write-of-spec =
     tie.close
     (tie.spec
     reach-requires
