@@ -7,5 +7,6 @@ pub mod naming; // what a byte string names
 pub mod operator; // fresh start, save, load, free segments, tidying
 pub mod catalogue; // open, rename, close, abandon
 pub mod elements; // pointers, write, next, prev
+pub mod signed; // the same three of species 6, with signed numbers
 pub mod runs; // runs of elements
 pub mod inquiry; // what is asked about an open file

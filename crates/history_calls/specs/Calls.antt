@@ -17,8 +17,11 @@ use Rattle.history_lines.specs.declared.OfName.{OfName}
 use Rattle.history_lines.specs.declared.OfName.the-variants as OfName
 use Rattle.history_lines.specs.declared.Named.{Named}
 use Rattle.history_lines.specs.declared.Named.the-variants as Named
+use Rattle.history_lines.specs.declared.signed.SignedWrite.{SignedWrite}
+use Rattle.history_lines.specs.declared.signed.SignedWrite.the-variants as SignedWrite
 use Rattle.history_lines.specs.Spelling.{found, twoWords, threeWords, nameWords}
 use Rattle.history_lines.specs.Naming.{namedAt}
+use Rattle.history_lines.specs.Signing.{signedWriteAt}
 
 abbrev pub twoCall : OfTwo → ℕ → ℕ → Option Call
 twoCall OfTwo.Close u e = some (on u e (closes false))
@@ -40,6 +43,8 @@ threeCall OfThree.Pointer u e n = some (on u e (uses (call.newPointer n)))
 threeCall OfThree.Delete u e n = some (on u e (uses (call.deletePointer n)))
 threeCall OfThree.Symbol u e n = some (on u e (uses (call.askSymbol n)))
 threeCall OfThree.Value u e n = some (on u e (uses (call.askValue n)))
+threeCall OfThree.NextSigned u e n = some (on u e (uses (call.nextSigned n)))
+threeCall OfThree.PrevSigned u e n = some (on u e (uses (call.prevSigned n)))
 threeCall OfThree.Unknown u e n = none
 
 abbrev pub nameCall : OfName → ℕ → ℕ → List ℕ → Option Call
@@ -74,12 +79,22 @@ callOf w (Numbers.Three u e n) = threeCall (found threeWords OfThree.Unknown w) 
 callOf w (Numbers.Four u e p n) = cond (sameb w (119 ∷ 114 ∷ 105 ∷ 116 ∷ 101 ∷ [])) (some (on u e (uses (call.write p n)))) none
 callOf w Numbers.Bad = none
 
+abbrev pub signedCall : SignedWrite → Option Call
+signedCall (SignedWrite.Is u e p z) = some (on u e (uses (call.writeSigned p z)))
+signedCall SignedWrite.Bad = none
+
+-- a word that ends at a place, and the numbers after it: write_signed, and the words of plain numbers
+unfoldable pub numbersCall : List ℕ → ℕ → Option Call
+numbersCall line at =
+    cond (sameb (part 0 at line) (119 ∷ 114 ∷ 105 ∷ 116 ∷ 101 ∷ 95 ∷ 115 ∷ 105 ∷ 103 ∷ 110 ∷ 101 ∷ 100 ∷ [])) (signedCall (signedWriteAt line at))
+    (callOf (part 0 at line) (numbersAt line at))
+
 -- a line whose first word ends at a place
 abbrev pub callFrom : OfName → List ℕ → ℕ → Option Call
 callFrom OfName.Work line at = namedCall OfName.Work line at
 callFrom OfName.Read line at = namedCall OfName.Read line at
 callFrom OfName.Rename line at = namedCall OfName.Rename line at
-callFrom OfName.Unknown line at = callOf (part 0 at line) (numbersAt line at)
+callFrom OfName.Unknown line at = numbersCall line at
 
 -- the call that a line of bytes asks for
 unfoldable pub callIn : List ℕ → Option Call

@@ -3,10 +3,14 @@ use Prim.Native.Nat.{ℕ, _+_, _-_, _≤_}
 use mathlib.Core.Path.{_≡_, sym, ap, _∙_}
 use mathlib.Core.Bool.{Bool, true, false, cond}
 use mathlib.Core.Option.{Option, none}
-use mathlib.Core.List.{List, []}
+use mathlib.Core.List.{List, [], _∷_}
 use native.Mathlib.Omega.{arith}
 use lib.ListN.{length, drop, length-drop, drop-of-length-le}
 use lib.Seq.{take-all}
+use lib.IntN.{ℤ}
+use mir.Syntax.{w32}
+use mir.Val.{SFits, ofZ, toZ}
+use mir.ValLaws.{toZ-ofZ}
 use Rattle.rules.specs.Calls.{Call}
 use Rattle.history_words.specs.declared.Numbers.{Numbers}
 use Rattle.history_words.specs.Words.{sameb, wordEnd, part, numbersAt}
@@ -16,10 +20,13 @@ use Rattle.history_lines.specs.declared.OfName.{OfName}
 use Rattle.history_lines.specs.declared.OfName.the-variants as OfName
 use Rattle.history_lines.specs.declared.Named.{Named}
 use Rattle.history_lines.specs.declared.Named.the-variants as Named
+use Rattle.history_lines.specs.declared.signed.SignedWrite.{SignedWrite}
+use Rattle.history_lines.specs.declared.signed.SignedWrite.the-variants as SignedWrite
 use Rattle.history_lines.specs.Spelling.{found, nameWords}
 use Rattle.history_lines.specs.Naming.{namedAt}
-use Rattle.history_calls.specs.Calls.{twoCall, threeCall, nameCall, namedCall, withName, callOf, callFrom, callIn}
-use Rattle.history_calls.specs.Told.{Told, toldOf, tell-call, tell-count, tell-none}
+use Rattle.history_lines.specs.Signing.{signedWriteAt}
+use Rattle.history_calls.specs.Calls.{twoCall, threeCall, nameCall, namedCall, withName, callOf, signedCall, numbersCall, callFrom, callIn}
+use Rattle.history_calls.specs.Told.{Told, toldOf, tell-call, tell-signed, tell-count, tell-none}
 
 module _ (s t : List ℕ) (y : Told) where
   pub two-known : (w k : OfTwo) (u e : ℕ) → w ≡ k → y ≡ toldOf (twoCall k u e) s t → y ≡ toldOf (twoCall w u e) s t
@@ -80,13 +87,32 @@ module _ (s t : List ℕ) (y : Told) where
         ∙ ap (λ z. toldOf (callFrom z line at) s t) (sym q ∙ e)
         ∙ ap (λ i. toldOf (callFrom (found nameWords OfName.Unknown (part 0 i line)) line i) s t) a
 
-  pub numbers-read : (w line : List ℕ) (at : ℕ) (m : Numbers) → m ≡ numbersAt line at → y ≡ toldOf (callOf w m) s t → y ≡ toldOf (callOf w (numbersAt line at)) s t
-  numbers-read w line at m q r = r ∙ ap (λ z. toldOf (callOf w z) s t) q
+  -- ---- a word and the numbers after it, plain ones or a signed one at the end
 
-pub ruleset known = (tell-call, tell-none, two-known, three-known, name-known)
+  module _ (b : Bool) (line : List ℕ) (at : ℕ) (e : b ≡ sameb (part 0 at line) (119 ∷ 114 ∷ 105 ∷ 116 ∷ 101 ∷ 95 ∷ 115 ∷ 105 ∷ 103 ∷ 110 ∷ 101 ∷ 100 ∷ [])) where
+    pub signed-line : (w : SignedWrite) → b ≡ true → w ≡ signedWriteAt line at → y ≡ toldOf (signedCall w) s t → y ≡ toldOf (numbersCall line at) s t
+    unfolding numbersCall
+    signed-line w q h r = rw (sym e ∙ q) (r ∙ ap (λ z. toldOf (signedCall z) s t) h)
+
+    pub plain-line : (m : Numbers) → b ≡ false → m ≡ numbersAt line at → y ≡ toldOf (callOf (part 0 at line) m) s t → y ≡ toldOf (numbersCall line at) s t
+    unfolding numbersCall
+    plain-line m q h r = rw (sym e ∙ q) (r ∙ ap (λ z. toldOf (callOf (part 0 at line) z) s t) h)
+
+  module _ (w : SignedWrite) where
+    pub no-signed-write : w ≡ SignedWrite.Bad → y ≡ toldOf none s t → y ≡ toldOf (signedCall w) s t
+    no-signed-write q r = r ∙ sym (ap (λ x. toldOf (signedCall x) s t) q)
+
+    -- a signed number comes out of its bits again
+    pub signed-write : (u n p : ℕ) (z : ℤ) → SFits w32 z → w ≡ SignedWrite.Is u n p z
+        → y ≡ toldOf (signedCall (SignedWrite.Is u n p (toZ w32 (ofZ w32 z)))) s t → y ≡ toldOf (signedCall w) s t
+    signed-write u n p z f q r = r ∙ ap (λ x. toldOf (signedCall (SignedWrite.Is u n p x)) s t) (toZ-ofZ w32 z f) ∙ sym (ap (λ x. toldOf (signedCall x) s t) q)
+
+pub ruleset known = (tell-call, tell-signed, tell-none, two-known, three-known, name-known)
 
 pub ruleset counted = (tell-call, tell-count, tell-none, numbers-known, word-here, word-other, two-found, three-found)
 
-pub ruleset heard = (word-read, numbers-read)
+pub ruleset heard = (word-read)
+
+pub ruleset parted = (tell-none, signed-line, plain-line, no-signed-write)
 
 pub ruleset spoken = (tell-none, no-name-read, name-follows, nothing-follows)

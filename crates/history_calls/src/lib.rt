@@ -5,15 +5,21 @@ use history_lines::OfName;
 use history_lines::OfThree;
 use history_lines::OfTwo;
 use history_words::Numbers;
+use signed::replied_signed;
 ghost use mathlib.Core.Path.{_≡_};
+ghost use Prim.Native.Nat.{_≤_};
+ghost use lib.ListN.{length};
 ghost use Rattle.answers.specs.Said.{said};
 ghost use Rattle.cells.specs.Outcomes.{lent};
-ghost use Rattle.history_calls.specs.Calls.{twoCall, threeCall, nameCall, namedCall, aloneCall, callOf, callIn};
+ghost use Rattle.history_calls.specs.Calls.{twoCall, threeCall, nameCall, namedCall, aloneCall, callOf, numbersCall, callIn};
 ghost use Rattle.history_calls.specs.Told.{told, toldOf, replyOf};
+
+pub mod signed; // signed numbers, given and taken
 
 // What a line is answered by: a call, a line for tests, a line that is neither.
 pub enum Reply {
     Done(u32),
+    DoneSigned(i32),
     Refused(u32),
     // what a run left unwritten, or filled, and the refusal's number or 0
     Rest(u32, u32),
@@ -76,6 +82,20 @@ fn on_three(
         )),
         OfThree::Symbol => replied(call_ask::symbol(store, tables, user, entry, number)),
         OfThree::Value => replied(call_ask::value(store, tables, user, entry, number)),
+        OfThree::NextSigned => replied_signed(call_next_prev::signed::next_signed(
+            store,
+            tables,
+            user,
+            entry,
+            number,
+        )),
+        OfThree::PrevSigned => replied_signed(call_next_prev::signed::prev_signed(
+            store,
+            tables,
+            user,
+            entry,
+            number,
+        )),
         OfThree::Unknown => Reply::Bad,
     }
 }
@@ -164,6 +184,19 @@ fn numbered(store: &mut [u32], tables: &mut [u32], word: &[u8], numbers: Numbers
     }
 }
 
+// A line whose first word, which ends at a place, is followed by numbers alone.
+fn numbers_line(store: &mut [u32], tables: &mut [u32], line: &[u8], at: usize) -> Reply
+    requires { ⌜ at ≤ length (now line) ⌝ }
+    ensures { λ r. ⌜ told r (lent (now (store .exit)) (now (tables .exit))) ≡ toldOf (numbersCall (now (line .entry)) at) (now (store .entry)) (now (tables .entry)) ⌝ }
+{
+    if history_words::same(&line[0..at], b"write_signed") {
+        let asked = history_lines::signed::signed_write_at(line, at);
+        return signed::write_signed(store, tables, asked);
+    }
+    let numbers = history_words::numbers_at(line, at);
+    numbered(store, tables, &line[0..at], numbers)
+}
+
 // A line that asks for a call on store and tables alone; to any other it answers Bad and changes nothing.
 pub fn perform(store: &mut [u32], tables: &mut [u32], line: &[u8]) -> Reply
     ensures { λ r. ⌜ told r (lent (now (store .exit)) (now (tables .exit))) ≡ toldOf (callIn (now (line .entry))) (now (store .entry)) (now (tables .entry)) ⌝ }
@@ -174,9 +207,6 @@ pub fn perform(store: &mut [u32], tables: &mut [u32], line: &[u8]) -> Reply
         OfName::Work => named(store, tables, OfName::Work, line, at),
         OfName::Read => named(store, tables, OfName::Read, line, at),
         OfName::Rename => named(store, tables, OfName::Rename, line, at),
-        OfName::Unknown => {
-            let numbers = history_words::numbers_at(line, at);
-            numbered(store, tables, &line[0..at], numbers)
-        }
+        OfName::Unknown => numbers_line(store, tables, line, at),
     }
 }

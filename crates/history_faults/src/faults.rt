@@ -1,8 +1,9 @@
 // Where a line departs from its form: the first word that is wrong, from left to right; then a word too many; then what is not there.
+use crate::numbers::number_fault;
+use crate::numbers::signed_fault;
 use crate::parts::Part;
 use crate::parts::word_after;
 use history_lines::Buffer;
-use history_words::Number;
 ghost use lib.ListN.{length};
 ghost use Rattle.history_faults.specs.Parts.{Within};
 
@@ -13,6 +14,7 @@ pub enum Fault {
     NoNumber, // other bytes than digits
     Long, // more than ten digits
     Large, // above 4294967295
+    Range, // of a signed number: not of 32 bits
     NoBuffer, // no buffer's name
     Word, // a word after the last field
     Space, // a space after the last field
@@ -23,36 +25,6 @@ pub enum Fault {
 pub struct Departure {
     pub fault: Fault,
     pub field: Part,
-}
-
-fn has_digits_only(word: &[u8]) -> bool {
-    let mut i = 0;
-    while i < word.len() {
-        if word[i] < b'0' {
-            return false;
-        }
-        if b'9' < word[i] {
-            return false;
-        }
-        i += 1;
-    }
-    true
-}
-
-fn number_fault(word: &[u8]) -> Fault {
-    let read = history_words::number_of(word);
-    match read {
-        Number::Is(n) => Fault::None,
-        Number::Bad => {
-            if !has_digits_only(word) {
-                return Fault::NoNumber;
-            }
-            if 10 < word.len() {
-                return Fault::Long;
-            }
-            Fault::Large
-        }
-    }
 }
 
 fn buffer_fault(word: &[u8]) -> Fault {
@@ -73,6 +45,9 @@ fn word_fault(field: &[u8], word: &[u8]) -> Fault {
     }
     if history_words::same(field, b"BUFFER") {
         return buffer_fault(word);
+    }
+    if history_words::same(field, b"SIGNED") {
+        return signed_fault(word);
     }
     number_fault(word)
 }

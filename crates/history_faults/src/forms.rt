@@ -4,7 +4,7 @@ use crate::parts::Part;
 ghost use lib.ListN.{length};
 ghost use Rattle.history_faults.specs.Parts.{Within};
 
-pub const FORMS: [u8; 631] = *b"fresh; \
+pub const FORMS: [u8; 735] = *b"fresh; \
     tidy; \
     save IMAGE; \
     load IMAGE; \
@@ -22,6 +22,9 @@ pub const FORMS: [u8; 631] = *b"fresh; \
     write USER ENTRY POINTER ELEMENT; \
     next USER ENTRY POINTER; \
     prev USER ENTRY POINTER; \
+    write_signed USER ENTRY POINTER SIGNED; \
+    next_signed USER ENTRY POINTER; \
+    prev_signed USER ENTRY POINTER; \
     writes USER ENTRY POINTER LIST; \
     nexts USER ENTRY POINTER LIST; \
     species USER ENTRY; \

@@ -3,6 +3,7 @@
 pub mod text; // bytes put into a text
 mod parts; // words by their places
 mod forms; // the form of every line
+mod numbers; // what is wrong with a number
 mod faults; // where a line departs from its form
 
 use faults::Fault;
@@ -26,6 +27,7 @@ fn say_fault(text: &mut [u8], at: usize, fault: Fault) -> usize {
         Fault::NoNumber => append(text, at, b" is no number"),
         Fault::Long => append(text, at, b" has more than ten digits"),
         Fault::Large => append(text, at, b" is above 4294967295"),
+        Fault::Range => append(text, at, b" is none of -2147483648 to 2147483647"),
         Fault::NoBuffer => append(
             text,
             at,

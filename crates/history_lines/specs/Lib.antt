@@ -2,3 +2,4 @@
 pub mod Spelling
 pub mod Buffers
 pub mod Naming
+pub mod Signing

@@ -70,6 +70,10 @@ threeWords =
     (115 ∷ 121 ∷ 109 ∷ 98 ∷ 111 ∷ 108 ∷ [], OfThree.Symbol)
     ∷  -- value
     (118 ∷ 97 ∷ 108 ∷ 117 ∷ 101 ∷ [], OfThree.Value)
+    ∷  -- next_signed
+    (110 ∷ 101 ∷ 120 ∷ 116 ∷ 95 ∷ 115 ∷ 105 ∷ 103 ∷ 110 ∷ 101 ∷ 100 ∷ [], OfThree.NextSigned)
+    ∷  -- prev_signed
+    (112 ∷ 114 ∷ 101 ∷ 118 ∷ 95 ∷ 115 ∷ 105 ∷ 103 ∷ 110 ∷ 101 ∷ 100 ∷ [], OfThree.PrevSigned)
     ∷ []
 
 abbrev pub nameWords : List (List ℕ × OfName)

@@ -8,6 +8,7 @@ ghost use Rattle.history_lines.specs.Naming.{namedAt, entryAt};
 use history_words::NumberAt;
 
 pub mod buffers; // the words of buffers
+pub mod signed; // what follows the word of a signed write
 
 // The words that are followed by user and entry.
 pub enum OfTwo {
@@ -32,6 +33,8 @@ pub enum OfThree {
     Delete,
     Symbol,
     Value,
+    NextSigned,
+    PrevSigned,
     Unknown,
 }
 
@@ -132,6 +135,12 @@ pub fn of_three_word(word: &[u8]) -> OfThree
     }
     if history_words::same(word, b"value") {
         return OfThree::Value;
+    }
+    if history_words::same(word, b"next_signed") {
+        return OfThree::NextSigned;
+    }
+    if history_words::same(word, b"prev_signed") {
+        return OfThree::PrevSigned;
     }
     OfThree::Unknown
 }

@@ -1,9 +1,11 @@
 -- Words and numbers of a line, as bytes: "Any other line is words parted by exactly one space." Assumes nothing.
 use Prim.Native.Nat.{ℕ, _+_, _*_, _-_}
-use mathlib.Core.Bool.{Bool, true, false, _&&_, cond}
+use mathlib.Core.Bool.{Bool, true, false, _&&_, _||_, cond}
 use mathlib.Core.List.{List, [], _∷_}
 use lib.Dec.{leb, ltb, eqb}
-use lib.ListN.{length, take, drop}
+use lib.IntN.{ℤ, pos, negsuc, _-ℤ_}
+use lib.ListN.{length, getD, take, drop}
+use lib.Signed.{ltZ}
 use Rattle.bytes.specs.Bytes.{indexOf}
 use Rattle.names.specs.Names.{isDigit}
 use Rattle.history_words.specs.declared.Number.{Number}
@@ -12,6 +14,8 @@ use Rattle.history_words.specs.declared.NumberAt.{NumberAt}
 use Rattle.history_words.specs.declared.NumberAt.the-variants as there
 use Rattle.history_words.specs.declared.Numbers.{Numbers}
 use Rattle.history_words.specs.declared.Numbers.the-variants.{Zero, One, Two, Three, Four, Bad}
+use Rattle.history_words.specs.declared.signed.SignedNumber.{SignedNumber}
+use Rattle.history_words.specs.declared.signed.SignedNumber.the-variants as signed
 
 -- the same bytes
 unfoldable pub sameb : List ℕ → List ℕ → Bool
@@ -35,6 +39,25 @@ digitsFrom v (b ∷ bs) =
 
 unfoldable pub numberOf : List ℕ → Number
 numberOf word = cond (leb 1 (length word) && leb (length word) 10) (digitsFrom 0 word) number.Bad
+
+-- ---- "A signed number is digits with or without one `-` before them, -2147483648 to 2147483647."; negsuc k is -(k + 1)
+
+unfoldable pub inRange : ℤ → SignedNumber
+inRange z = cond (ltZ z (negsuc 2147483647) || ltZ (pos 2147483647) z) signed.Bad (signed.Is z)
+
+-- what the digits make, and whether a `-` stands before them; with it 0 is 0
+abbrev pub withSign : (minus : Bool) → Number → SignedNumber
+withSign true (number.Is n) = inRange (pos 0 -ℤ pos n)
+withSign false (number.Is n) = inRange (pos n)
+withSign true number.Bad = signed.Bad
+withSign false number.Bad = signed.Bad
+
+unfoldable pub signedNumberOf : List ℕ → SignedNumber
+signedNumberOf word = cond (eqb (getD word 0 0) 45) (withSign true (numberOf (drop 1 word))) (withSign false (numberOf word))
+
+-- the one after the space at a place, up to the line's end: a space more is no digit
+unfoldable pub lastSigned : List ℕ → ℕ → SignedNumber
+lastSigned line at = signedNumberOf (drop (at + 1) line)
 
 -- ---- the numbers that follow a place, which is a space or the line's end
 

@@ -4,6 +4,8 @@ ghost use Prim.Native.Nat.{_≤_};
 ghost use lib.ListN.{length};
 ghost use Rattle.history_words.specs.Words.{sameb, wordEnd, digitsFrom, numberOf, numberAt, numbersAt, afterOne, afterTwo, afterThree};
 
+pub mod signed; // signed numbers
+
 // A word read as a number.
 pub enum Number {
     Is(u32),

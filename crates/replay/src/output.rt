@@ -11,6 +11,22 @@ fn say_number(out: &mut [u8], at: usize, word: &[u8], n: u32) -> usize {
     append(out, to, b"\n")
 }
 
+// How far a number is from zero.
+fn distance(n: i32) -> u32 {
+    if n < 0 {
+        return (-1 - n) as u32 + 1;
+    }
+    n as u32
+}
+
+// Below zero a `-` stands before the digits.
+fn say_signed(out: &mut [u8], at: usize, n: i32) -> usize {
+    if n < 0 {
+        return say_number(out, at, b"done -", distance(n));
+    }
+    say_number(out, at, b"done ", distance(n))
+}
+
 fn say_two(out: &mut [u8], at: usize, word: &[u8], n: u32, m: u32) -> usize {
     let mut decimal = [0u8; 20];
     let k = io::decimal(n as u64, &mut decimal);
@@ -23,6 +39,7 @@ fn say_two(out: &mut [u8], at: usize, word: &[u8], n: u32, m: u32) -> usize {
 pub fn say(out: &mut [u8], at: usize, reply: Reply, line: &[u8]) -> usize {
     match reply {
         Reply::Done(n) => say_number(out, at, b"done ", n),
+        Reply::DoneSigned(n) => say_signed(out, at, n),
         Reply::Refused(n) => say_number(out, at, b"refused ", n),
         Reply::Rest(left, number) => say_two(out, at, b"rest ", left, number),
         Reply::Filled(many, number) => say_two(out, at, b"filled ", many, number),

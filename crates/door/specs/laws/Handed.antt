@@ -12,6 +12,7 @@ use Rattle.answers.specs.laws.Said.{one-answer}
 use Rattle.combine.specs.Verdict.{Said, done, refused}
 use Rattle.combine.specs.Outcome.{Outcome, outcomeOf}
 use Rattle.combine.specs.laws.Numbers.{le-or-lt}
+use Rattle.door.specs.laws.Exactly.{exactly, one-of}
 use Rattle.door.specs.Handed.{firstRefused, packed, unpacked, Packs, handed}
 
 pub unpacked-done : (n : ℕ) → n < firstRefused → unpacked n ≡ done n
@@ -37,7 +38,7 @@ pub unpacked-packed : (a : Said) → Packs a → unpacked (packed a) ≡ a
 unpacked-packed (done n) h = unpacked-done n h
 unpacked-packed (refused n) h = unpacked-refused n
 
-packs : (m : ℕ) → Packs (unpacked m)
+pub packs : (m : ℕ) → Packs (unpacked m)
 packs m =
     ⊎-elim
     (λ h. let e : firstRefused + (m - firstRefused) ≡ m = omega arith in subst Packs (sym (unpacked-refused (m - firstRefused)) ∙ ap unpacked e) tt)
@@ -46,8 +47,7 @@ packs m =
 
 -- a number is an answer exactly if it is that answer's number
 pub number-answer : (m : ℕ) (a : Said) → (unpacked m ≡ a) ↔ ((m ≡ packed a) × Packs a)
-number-answer m a =
-    (λ e. (sym (packed-unpacked m) ∙ ap packed e, subst Packs e (packs m)), λ h. ap unpacked (h .0) ∙ unpacked-packed a (h .1))
+number-answer = exactly packed unpacked Packs unpacked-packed packed-unpacked packs
 
 -- it is done n exactly if it is n, below 2^32
 pub number-done : (m n : ℕ) → (unpacked m ≡ done n) ↔ ((m ≡ n) × (n < firstRefused))
@@ -61,8 +61,7 @@ number-refused m n = (λ e. number-answer m (refused n) .0 e .0, λ h. number-an
 
 -- two answers that have one number are one answer
 pub one-packed : (a b : Answer) → Packs (said a) → Packs (said b) → packed (said a) ≡ packed (said b) → a ≡ b
-one-packed a b p q e =
-    one-answer a b (sym (unpacked-packed (said a) p) ∙ ap unpacked e ∙ unpacked-packed (said b) q)
+one-packed = one-of packed unpacked Packs unpacked-packed said one-answer
 
 module _ (a : Answer) (m : ℕ) (e : unpacked m ≡ said a) where
   pub answer-done : (n : ℕ) → (a ≡ Done n) ↔ ((m ≡ n) × (n < firstRefused))

@@ -69,6 +69,24 @@ replied-requires-7 c κs = search needs
 enum-told-8 : tie.Need-enum-told-8
 enum-told-8 c = search needs
 
+next-signed-requires : tie.Need-next-signed-requires
+next-signed-requires c κs = search needs
+
+replied-signed-requires : tie.Need-replied-signed-requires
+replied-signed-requires c κs = search needs
+
+enum-told-9 : tie.Need-enum-told-9
+enum-told-9 c = search needs
+
+prev-signed-requires : tie.Need-prev-signed-requires
+prev-signed-requires c κs = search needs
+
+replied-signed-requires-2 : tie.Need-replied-signed-requires-2
+replied-signed-requires-2 c κs = search needs
+
+enum-told-10 : tie.Need-enum-told-10
+enum-told-10 c = search needs
+
 same-length : tie.Need-same-length
 same-length c = search needs
 
@@ -111,8 +129,20 @@ same-length-7 c = search needs
 returns-7 : tie.Need-returns-7
 returns-7 c = search known
 
+same-length-8 : tie.Need-same-length-8
+same-length-8 c = search needs
+
 returns-8 : tie.Need-returns-8
 returns-8 c = search known
+
+same-length-9 : tie.Need-same-length-9
+same-length-9 c = search needs
+
+returns-9 : tie.Need-returns-9
+returns-9 c = search known
+
+returns-10 : tie.Need-returns-10
+returns-10 c = search known
 
 pub on-three-spec : {M : Type 1} → statement M
 on-three-spec =
@@ -140,6 +170,12 @@ on-three-spec =
     value-requires
     replied-requires-7
     enum-told-8
+    next-signed-requires
+    replied-signed-requires
+    enum-told-9
+    prev-signed-requires
+    replied-signed-requires-2
+    enum-told-10
     same-length
     returns
     same-length-2
@@ -154,4 +190,8 @@ on-three-spec =
     returns-6
     same-length-7
     returns-7
-    returns-8)
+    same-length-8
+    returns-8
+    same-length-9
+    returns-9
+    returns-10)

@@ -39,20 +39,8 @@ named-requires-3 c κs = search needs
 enum-told-4 : tie.Need-enum-told-4
 enum-told-4 c = search needs
 
-numbers-at-requires : tie.Need-numbers-at-requires
-numbers-at-requires c κs = search needs
-
-sub-numbered : tie.Need-sub-numbered
-sub-numbered c = search needs
-
-part-numbered-start : tie.Need-part-numbered-start
-part-numbered-start c = search needs
-
-part-numbered-end : tie.Need-part-numbered-end
-part-numbered-end c = search needs
-
-numbered-requires : tie.Need-numbered-requires
-numbered-requires c κs = search needs
+numbers-line-requires : tie.Need-numbers-line-requires
+numbers-line-requires c κs = search needs
 
 same-length : tie.Need-same-length
 same-length c = search needs
@@ -106,11 +94,7 @@ perform-spec =
     enum-told-3
     named-requires-3
     enum-told-4
-    numbers-at-requires
-    sub-numbered
-    part-numbered-start
-    part-numbered-end
-    numbered-requires
+    numbers-line-requires
     same-length
     same-length-2
     returns

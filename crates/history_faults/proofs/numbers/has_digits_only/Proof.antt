@@ -1,8 +1,8 @@
 use borrow.Author.Needs.{needs}
 use Prim.Native.Nat.{_-_}
 use lib.ListN.{length}
-use Rattle.history_faults.proofs.faults.has_digits_only.Statement.{statement}
-use Rattle.history_faults.proofs.faults.has_digits_only.Tie as tie
+use Rattle.history_faults.proofs.numbers.has_digits_only.Statement.{statement}
+use Rattle.history_faults.proofs.numbers.has_digits_only.Tie as tie
 
 abbrev Inv-loop : tie.InvT-loop
 Inv-loop word i₀ i = Unit {0}
