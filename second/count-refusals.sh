@@ -21,14 +21,14 @@ for seed in "$@"; do
         substr($1, 1, 1) == "?" { bad++ }
         END {
             printf "seed %s: done %d, bad lines %d, refused", seed, done, bad
-            for (number = 1; number <= 22; number++) {
+            for (number = 1; number <= 23; number++) {
                 printf " %d:%d", number, count[number]
                 # "12 is never given again."
                 if (number != 12 && count[number] < least) scarce = scarce " " number
             }
             printf "\n"
             printf "seed %s: runs not stopped %d, stopped", seed, whole
-            stops = split("1 2 4 5 6 7 8 9 10 20", stop)
+            stops = split("1 2 4 5 6 7 8 9 10 19 20 23", stop)
             for (place = 1; place <= stops; place++) {
                 printf " %d:%d", stop[place], stopped[stop[place]]
                 if (stopped[stop[place]] < least) scarce = scarce " run:" stop[place]

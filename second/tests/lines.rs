@@ -2,83 +2,10 @@
 
 mod common;
 
+use common::bad_lines::BAD;
 use common::{answer, check, fresh_desk};
 use std::io::Write;
 use std::process::{Command, Stdio};
-
-const BAD: [&str; 71] = [
-    " ",
-    " fresh",
-    "fresh ",
-    "fresh 0",
-    "Fresh",
-    "fresh\r",
-    "free",
-    "free ",
-    "free  0",
-    "free 0 ",
-    "free 0 0",
-    "free -1",
-    "free +1",
-    "free 0x1",
-    "free 00000000000",
-    "free 4294967296",
-    "free 9999999999",
-    "new 0 0",
-    "new 0 0 0 0",
-    "work",
-    "work 0",
-    "work 0 ",
-    "work 0 0a",
-    "work  0 0 a",
-    "save",
-    "save 4",
-    "load 4294967295",
-    "peek store 65600",
-    "peek image0 1024",
-    "peek image4 0",
-    "peek image00 0",
-    "poke image0 0",
-    "poke store 65600 0",
-    "lend store 65601",
-    "lend image1 1025",
-    "lend tables 4294967295",
-    "lend",
-    "sum",
-    "sum store 0",
-    "peek tables 4294967295",
-    "writes",
-    "writes 0 0 1",
-    "writes 0 0 1 2",
-    "writes 0 0 1 4294967295",
-    "writes 0 0 1 0 0",
-    "writes 0 0 1 0 ",
-    "writes 0 0 1 list0",
-    "nexts",
-    "nexts 0 0 2",
-    "nexts 0 0 2 2",
-    "nexts 0 0 2 -1",
-    "nexts 0 0 2 00000000000",
-    "nexts  0 0 2 0",
-    "prevs 0 0 2 0",
-    "peek list0 2112",
-    "peek list2 0",
-    "peek list 0",
-    "poke list1 2112 0",
-    "poke list0 0",
-    "lend list0 2113",
-    "sum list",
-    "sum list2",
-    "tidy ",
-    " tidy",
-    "tidy 0",
-    "tidy 0 0",
-    "Tidy",
-    "tidy\r",
-    "tidyup",
-    "help",
-    "help 0",
-];
 
 #[test]
 fn bad_lines_change_nothing() {
@@ -92,8 +19,8 @@ fn bad_lines_change_nothing() {
     check(&mut desk, &[("sum list0", "sum 0"), ("writes 8 0 1 0", "rest 40 1"), ("writes 8 0 1 1", "rest 40 1")]);
 }
 
-/// 27 calls and the four lines for tests.
-const GOOD_LINES: usize = 31;
+/// 30 calls and the four lines for tests.
+const GOOD_LINES: usize = 34;
 
 #[test]
 fn help_lists_good_lines() {
@@ -128,6 +55,8 @@ fn odd_lines_that_are_good() {
         &[("free 0000000007", "done 10"), ("free 4294967295", "refused 1"), ("save 0000000003", "done 0")],
     );
     check(&mut desk, &[("write 9 7 4294967295 1", "refused 1"), ("write 7 9 4294967295 1", "refused 2")]);
+    check(&mut desk, &[("write_signed 9 7 4294967295 -1", "refused 1"), ("next_signed 7 9 4294967295", "refused 2")]);
+    check(&mut desk, &[("prev_signed 0000000009 0 0", "refused 1"), ("write_signed 0 0 0 -0000000000", "refused 2")]);
     check(&mut desk, &[("writes 9 7 4294967295 1", "rest 40 1"), ("nexts 7 9 4294967295 0", "filled 0 2")]);
     check(&mut desk, &[("writes 0 0 0 0000000001", "rest 40 2"), ("nexts 0000000009 0 0 01", "filled 0 1")]);
     check(&mut desk, &[("lend list0 2112", "lent 2112"), ("peek list0 2111", "cell 0"), ("sum list0", "sum 0")]);

@@ -16,14 +16,6 @@ fn a_whole_run_and_back() {
 }
 
 #[test]
-fn a_run_loses_top_bits() {
-    let mut desk = fresh_desk(64);
-    put_into_list0(&mut desk, &[300, 1]);
-    check(&mut desk, &[("new 0 0 3", "done 0"), ("writes 0 0 1 0", "rest 0 0"), ("nexts 0 0 2 0", "filled 2 0")]);
-    check_cells(&mut desk, "list0", 0, &[44, 1]);
-}
-
-#[test]
 fn stopped_beyond_the_end() {
     let mut desk = desk_with(2, &[1, 2, 3]);
     put_into_list0(&mut desk, &[7, 8, 9, 10, 11]);

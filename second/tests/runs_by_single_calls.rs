@@ -13,8 +13,12 @@ fn refusal(answer: &str) -> Option<u32> {
     answer.strip_prefix("refused ").map(|number| number.parse().expect("a number"))
 }
 
-/// Of an empty list: what asking for the pointer's value is refused for (20, 1, 2, 4), then the work permit.
+/// Of an empty list: 19 where the species is known and is 6, "after 2 and before 4"; else what asking for the pointer's
+/// value is refused for (20, 1, 2, 4), then the work permit.
 fn judged_without_elements(desk: &mut Desk, user: u32, entry: u32, pointer: u32, needs_permit: bool) -> u32 {
+    if answer(desk, &format!("species {} {}", user, entry)) == "done 6" {
+        return 19;
+    }
     if let Some(number) = refusal(&answer(desk, &format!("value {} {} {}", user, entry, pointer))) {
         return number;
     }

@@ -19,7 +19,8 @@ fn desk_with_alternating_files() -> Desk {
         check(&mut desk, &[(line, "done 0")]);
     }
     for turn in 0..4 {
-        let numbers: Vec<u32> = (0..130).map(|number| 7 * number + turn).collect();
+        // Eight bits take them all.
+        let numbers: Vec<u32> = (0..130).map(|number| (7 * number + turn) % 256).collect();
         put_into_list0(&mut desk, &numbers);
         for line in ["writes 0 0 1 0", "writes 0 1 1 0", "writes 0 2 1 0"] {
             check(&mut desk, &[(line, "rest 0 0")]);

@@ -19,12 +19,12 @@ enum Place {
     End,
 }
 
-/// The word of an access through the work pointer, with its user and entry.
+/// The word of an access through the work pointer, signed or not, with its user and entry.
 fn access_through_work(line: &Line) -> Option<(&'static str, u32, u32)> {
     match *line {
-        Line::Write(user, entry, WORK, _) => Some(("write", user, entry)),
-        Line::Next(user, entry, WORK) => Some(("next", user, entry)),
-        Line::Prev(user, entry, WORK) => Some(("prev", user, entry)),
+        Line::Write(_, user, entry, WORK, _) => Some(("write", user, entry)),
+        Line::Next(_, user, entry, WORK) => Some(("next", user, entry)),
+        Line::Prev(_, user, entry, WORK) => Some(("prev", user, entry)),
         Line::Writes(user, entry, WORK, _) => Some(("writes", user, entry)),
         Line::Nexts(user, entry, WORK, _) => Some(("nexts", user, entry)),
         _ => None,

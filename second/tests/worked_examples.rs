@@ -36,11 +36,15 @@ fn width_4_position_10_element_10() {
     assert_eq!(0x0A00_0000, 167_772_160);
 }
 
+/// Document 02: "01's example with 300 changes so": it is refused, and nothing is stored.
 #[test]
 fn three_hundred_in_species_3() {
     let mut desk = fresh_desk(8192);
-    check(&mut desk, &[("new 0 0 3", "done 0"), ("write 0 0 1 300", "done 0"), ("prev 0 0 1", "done 44")]);
-    assert_eq!(answer(&mut desk, "peek store 0"), format!("cell {}", 44 << 24));
+    check(&mut desk, &[("new 0 0 3", "done 0")]);
+    let before = ["sum tables", "sum store"].map(|line| answer(&mut desk, line));
+    check(&mut desk, &[("write 0 0 1 300", "refused 23"), ("prev 0 0 1", "refused 6"), ("free 0", "done 128")]);
+    assert_eq!(["sum tables", "sum store"].map(|line| answer(&mut desk, line)), before);
+    check(&mut desk, &[("write 0 0 1 44", "done 0"), ("prev 0 0 1", "done 44")]);
 }
 
 #[test]

@@ -1,14 +1,25 @@
-//! Writing and reading elements through pointers.
+//! Writing and reading elements through pointers. Plain and signed calls are one rule: the kind says which species they
+//! refuse, and the species which numbers.
 
 use crate::model::catalogue::{Access, Catalogue};
 use crate::model::opening::{BEGIN, END};
 use crate::model::store::{Segment, Store};
+use crate::rules::element::{Element, Kind};
 use crate::rules::refusal::{Answer, Refusal};
 use crate::rules::sizes::{GREATEST_END, MOST_HELD};
 
-/// "Write: v < b is 6; p not 1 and v >= e is 7."
-pub fn write(catalogue: &mut Catalogue, store: &mut Store, user: u32, entry: u32, p: u32, x: u32) -> Answer {
+/// "Write: v < b is 6; p not 1 and v >= e is 7." Then document 02's 23, "after 7 and before 10, through any pointer".
+pub fn write(
+    catalogue: &mut Catalogue,
+    store: &mut Store,
+    kind: Kind,
+    user: u32,
+    entry: u32,
+    p: u32,
+    x: Element,
+) -> Answer {
     let mut access = catalogue.access(user, entry)?;
+    access.opening.check_kind(kind)?;
     let v = access.opening.pointer(p).ok_or(Refusal::NotAPointer)?;
     if !access.opening.permit {
         return Err(Refusal::NoWorkPermit);
@@ -18,6 +29,10 @@ pub fn write(catalogue: &mut Catalogue, store: &mut Store, user: u32, entry: u32
     }
     if p != END && v >= access.opening.file.end() {
         return Err(Refusal::BeyondTheEnd);
+    }
+    // "Write through pointer 0 is judged too", though nothing of the number is stored.
+    if !access.opening.file.species().takes(x) {
+        return Err(Refusal::NumberOutOfRange);
     }
     match p {
         // "Through 0: the first element is dropped, no segment is taken and no store cell changes."
@@ -32,8 +47,9 @@ pub fn write(catalogue: &mut Catalogue, store: &mut Store, user: u32, entry: u32
 }
 
 /// "Next: v < b is 6, v >= e is 7. Delivers position v, v grows. Through 0 the element leaves the file."
-pub fn next(catalogue: &mut Catalogue, user: u32, entry: u32, p: u32) -> Answer {
+pub fn next(catalogue: &mut Catalogue, kind: Kind, user: u32, entry: u32, p: u32) -> Answer {
     let mut access = catalogue.access(user, entry)?;
+    access.opening.check_kind(kind)?;
     let v = access.opening.pointer(p).ok_or(Refusal::NotAPointer)?;
     if p == BEGIN && !access.opening.permit {
         return Err(Refusal::NoWorkPermit);
@@ -53,8 +69,9 @@ pub fn next(catalogue: &mut Catalogue, user: u32, entry: u32, p: u32) -> Answer 
 }
 
 /// "Prev: v <= b is 6, v > e is 7. v falls by 1, delivers that position. Through 1 the element leaves the file."
-pub fn prev(catalogue: &mut Catalogue, user: u32, entry: u32, p: u32) -> Answer {
+pub fn prev(catalogue: &mut Catalogue, kind: Kind, user: u32, entry: u32, p: u32) -> Answer {
     let mut access = catalogue.access(user, entry)?;
+    access.opening.check_kind(kind)?;
     let v = access.opening.pointer(p).ok_or(Refusal::NotAPointer)?;
     if p == END && !access.opening.permit {
         return Err(Refusal::NoWorkPermit);
@@ -86,7 +103,7 @@ fn drop_last(access: &mut Access) {
 }
 
 /// "Through 1: append, e grows by 1." Refused in the order 10, 8, 9.
-fn append(access: &mut Access, store: &mut Store, x: u32) -> Result<(), Refusal> {
+fn append(access: &mut Access, store: &mut Store, x: Element) -> Result<(), Refusal> {
     let position = access.opening.file.end();
     if position == GREATEST_END {
         return Err(Refusal::PositionsUsedUp);
@@ -111,7 +128,7 @@ fn append(access: &mut Access, store: &mut Store, x: u32) -> Result<(), Refusal>
 }
 
 /// "Else position v is replaced."
-fn replace(access: &mut Access, store: &mut Store, position: u32, x: u32) -> Result<(), Refusal> {
+fn replace(access: &mut Access, store: &mut Store, position: u32, x: Element) -> Result<(), Refusal> {
     // A position of the file always has its segment.
     if let Some(held) = access.opening.file.segment_for(position) {
         let segment = writable(access, store, position, held)?;

@@ -2,6 +2,7 @@
 //! the number of free segments".
 
 use crate::model::catalogue::Catalogue;
+use crate::rules::element::Element;
 use crate::rules::refusal::{Answer, Refusal};
 
 #[derive(Clone, Copy, PartialEq, Eq, Debug)]
@@ -17,19 +18,20 @@ pub enum Inquiry {
 
 pub fn inquire(catalogue: &Catalogue, user: u32, entry: u32, inquiry: Inquiry) -> Answer {
     let opening = catalogue.opening(user, entry)?;
-    match inquiry {
-        Inquiry::Species => Ok(opening.file.species().number()),
-        Inquiry::Claim => Ok(opening.file.claim()),
-        Inquiry::Permit => Ok(u32::from(opening.permit)),
-        Inquiry::Begin => Ok(opening.file.begin()),
-        Inquiry::End => Ok(opening.file.end()),
-        Inquiry::Symbol(k) => Ok(opening.name.symbol(k)),
-        Inquiry::Value(pointer) => opening.pointer(pointer).ok_or(Refusal::NotAPointer),
-    }
+    let number = match inquiry {
+        Inquiry::Species => opening.file.species().number(),
+        Inquiry::Claim => opening.file.claim(),
+        Inquiry::Permit => u32::from(opening.permit),
+        Inquiry::Begin => opening.file.begin(),
+        Inquiry::End => opening.file.end(),
+        Inquiry::Symbol(k) => opening.name.symbol(k),
+        Inquiry::Value(pointer) => opening.pointer(pointer).ok_or(Refusal::NotAPointer)?,
+    };
+    Ok(Element::from(number))
 }
 
 /// The number of free segments "names a user, no entry: 20, 1".
 pub fn free_segments(catalogue: &Catalogue, user: u32) -> Answer {
     Catalogue::user(user)?;
-    Ok(catalogue.free.len() as u32)
+    Ok(catalogue.free.len() as Element)
 }

@@ -16,10 +16,10 @@ fn closed_entry(catalogue: &Catalogue, user: u32, entry: u32) -> Result<(usize, 
     }
 }
 
-/// "*New* makes an empty scratch file with work permit."
+/// "*New* makes an empty scratch file with work permit." Document 02: "Opening new takes species 6 and refuses 7 and above."
 pub fn open_new(catalogue: &mut Catalogue, user: u32, entry: u32, species: u32) -> Answer {
     let (user, entry) = closed_entry(catalogue, user, entry)?;
-    let species = Species::from_number(species).ok_or(Refusal::SpeciesAboveFive)?;
+    let species = Species::from_number(species).ok_or(Refusal::SpeciesUnfit)?;
     catalogue.entries[user][entry] = Some(Opening::of_new(species));
     Ok(0)
 }
@@ -75,7 +75,7 @@ mod tests {
     fn catalogue_with(files: &[(usize, bool)]) -> Catalogue {
         let mut catalogue = Catalogue::empty(1);
         for (place, &(owner, private)) in files.iter().enumerate() {
-            let file = File::new(Species::from_number(5).expect("0 to 5"));
+            let file = File::new(Species::from_number(5).expect("0 to 6"));
             catalogue.records[place] = Some(Record { name: evict(), owner, private, file });
         }
         catalogue

@@ -2,6 +2,7 @@
 
 use crate::model::catalogue::Catalogue;
 use crate::model::opening::own_place;
+use crate::rules::element::Element;
 use crate::rules::refusal::{Answer, Refusal};
 use crate::rules::sizes::FIRST_OWN;
 
@@ -18,7 +19,7 @@ pub fn new_pointer(catalogue: &mut Catalogue, user: u32, entry: u32, given: u32)
     let value = opening.pointer(given).ok_or(Refusal::NotAPointer)?;
     let place = opening.own.iter().position(Option::is_none).ok_or(Refusal::NoOwnPointerLeft)?;
     opening.own[place] = Some(value);
-    Ok((FIRST_OWN + place) as u32)
+    Ok((FIRST_OWN + place) as Element)
 }
 
 /// "Only 3 to 7 can be deleted."

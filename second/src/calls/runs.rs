@@ -1,10 +1,12 @@
 //! "Runs of elements": a lent list written through one pointer, and a lent list filled by next. "The outcome equals
-//! the single calls made one after another", so these are the single calls, made one after another.
+//! the single calls made one after another", so these are the single calls, made one after another. Document 02 has no signed
+//! run: a list holds plain numbers.
 
 use super::access;
 use crate::model::catalogue::Catalogue;
 use crate::model::opening::BEGIN;
 use crate::model::store::Store;
+use crate::rules::element::{Element, Kind};
 use crate::rules::refusal::Refusal;
 
 /// "that refusal's number, or 0".
@@ -24,7 +26,7 @@ pub fn write_run(
         return (0, number_or_0(judge_empty_run(catalogue, user, entry, p, true)));
     }
     for (written, &x) in list.iter().enumerate() {
-        if let Err(refusal) = access::write(catalogue, store, user, entry, p, x) {
+        if let Err(refusal) = access::write(catalogue, store, Kind::Plain, user, entry, p, Element::from(x)) {
             return (list.len() - written, refusal.number());
         }
     }
@@ -38,19 +40,21 @@ pub fn fill_run(catalogue: &mut Catalogue, user: u32, entry: u32, p: u32, list: 
         return (0, number_or_0(judge_empty_run(catalogue, user, entry, p, p == BEGIN)));
     }
     for (filled, place) in list.iter_mut().enumerate() {
-        match access::next(catalogue, user, entry, p) {
-            Ok(element) => *place = element,
+        match access::next(catalogue, Kind::Plain, user, entry, p) {
+            // A plain element is at most a cell wide.
+            Ok(element) => *place = element as u32,
             Err(refusal) => return (filled, refusal.number()),
         }
     }
     (list.len(), NOT_REFUSED)
 }
 
-/// "a list of length 0 still gets refusals 20, 1, 2, 4, 5 where they apply", and no later one: those are about an
-/// element, and there is none. Refusal 20 was looked for before. "Write always, next through 0 and prev through 1 need
-/// the work permit."
+/// "a list of length 0 still gets refusals 20, 1, 2, 4, 5 where they apply", and since document 02's species 6 also 19, "at
+/// length 0 too", after 2 and before 4. It gets no later one: those are about an element, and there is none. Refusal 20 was
+/// looked for before. "Write always, next through 0 and prev through 1 need the work permit."
 fn judge_empty_run(catalogue: &Catalogue, user: u32, entry: u32, p: u32, needs_permit: bool) -> Result<(), Refusal> {
     let opening = catalogue.opening(user, entry)?;
+    opening.check_kind(Kind::Plain)?;
     opening.pointer(p).ok_or(Refusal::NotAPointer)?;
     if needs_permit && !opening.permit {
         return Err(Refusal::NoWorkPermit);

@@ -2,6 +2,7 @@
 
 use crate::model::catalogue::Catalogue;
 use crate::model::store::{Segment, Store};
+use crate::rules::element::Element;
 use crate::rules::refusal::{Answer, Refusal};
 use crate::rules::sizes::SEGMENT_CELLS;
 use std::collections::{BTreeMap, BTreeSet};
@@ -23,7 +24,7 @@ pub fn tidy(catalogue: &mut Catalogue, store: &mut Store) -> Answer {
         file.renumber_segments(|segment| moves.get(&segment).copied().unwrap_or(segment));
     }
     // "The answer is the count of cells copied: 64 for each listed segment numbered H or above".
-    Ok((SEGMENT_CELLS * moves.len()) as u32)
+    Ok((SEGMENT_CELLS * moves.len()) as Element)
 }
 
 /// "Listed segments numbered H or above, in rising order, go to the free ones below H, in rising order; no other moves."
@@ -54,7 +55,7 @@ mod tests {
     const WHOLE_CELLS: u32 = 5;
 
     fn whole_cells() -> Species {
-        Species::from_number(WHOLE_CELLS).expect("0 to 5")
+        Species::from_number(WHOLE_CELLS).expect("0 to 6")
     }
 
     /// So many segments, and one file for each of these lists, which fills its segments.
@@ -96,7 +97,7 @@ mod tests {
     fn lists_and_free_segments_afterwards() {
         let mut store = Store::new();
         let mut catalogue = catalogue_with(6, &store, &[&[5, 1], &[3]]);
-        assert_eq!(tidy(&mut catalogue, &mut store), Ok(2 * SEGMENT_CELLS as u32));
+        assert_eq!(tidy(&mut catalogue, &mut store), Ok(2 * SEGMENT_CELLS as Element));
         assert_eq!(catalogue, catalogue_with(6, &store, &[&[2, 1], &[0]]));
         assert_eq!(tidy(&mut catalogue, &mut store), Ok(0));
     }

@@ -41,7 +41,8 @@ pub struct OpeningOutline {
 
 impl FileOutline {
     /// "species 0 to 5; 1 <= begin <= end; at most 32 segments held; segment numbers in range", and list places
-    /// after the held ones are zero. `segments` is how many the store was given.
+    /// after the held ones are zero. Document 02 adds species 6, which "images may hold", and tables too. `segments` is how
+    /// many the store was given.
     fn judged(species: u32, begin: u32, end: u32, list: &[u32], segments: usize) -> Result<FileOutline, Unsound> {
         let species = Species::from_number(species).ok_or(Unsound)?;
         if !VALUES.contains(&begin) || !VALUES.contains(&end) || begin > end {

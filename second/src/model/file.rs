@@ -1,6 +1,7 @@
 //! A file: its elements in order, and the segments that hold them, by rising stretch.
 
 use super::store::{Segment, Store};
+use crate::rules::element::Element;
 use crate::rules::species::Species;
 use std::collections::VecDeque;
 
@@ -8,7 +9,7 @@ use std::collections::VecDeque;
 pub struct File {
     species: Species,
     begin: u32,
-    elements: VecDeque<u32>,
+    elements: VecDeque<Element>,
     segments: VecDeque<Segment>,
 }
 
@@ -71,7 +72,7 @@ impl File {
     }
 
     /// The element at a position of the file.
-    pub fn element(&self, position: u32) -> u32 {
+    pub fn element(&self, position: u32) -> Element {
         self.elements[(position - self.begin) as usize]
     }
 
@@ -102,12 +103,12 @@ impl File {
         self.segments.push_back(segment);
     }
 
-    pub fn replace(&mut self, position: u32, number: u32) {
-        self.elements[(position - self.begin) as usize] = self.species.narrowed(number);
+    pub fn replace(&mut self, position: u32, element: Element) {
+        self.elements[(position - self.begin) as usize] = element;
     }
 
-    pub fn append(&mut self, number: u32) {
-        self.elements.push_back(self.species.narrowed(number));
+    pub fn append(&mut self, element: Element) {
+        self.elements.push_back(element);
     }
 
     /// The first element leaves a file that has one. Delivers the segment no longer held, if there is one.

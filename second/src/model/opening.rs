@@ -2,7 +2,9 @@
 
 use super::file::File;
 use super::record::Record;
+use crate::rules::element::Kind;
 use crate::rules::name::Name;
+use crate::rules::refusal::Refusal;
 use crate::rules::sizes::{FIRST_OWN, OWN_POINTERS};
 use crate::rules::species::Species;
 
@@ -38,6 +40,16 @@ impl Opening {
             file: record.file.clone(),
             work: work_pointer_of_old(&record.file, permit),
             own: [None; OWN_POINTERS],
+        }
+    }
+
+    /// Refusal 19 of an access: the signed calls "refuse species 0 to 5 with 19, and the plain ones refuse species 6 with
+    /// 19, after 2 and before 4; so do P1's runs, at length 0 too."
+    pub fn check_kind(&self, kind: Kind) -> Result<(), Refusal> {
+        if self.file.species().kind() == kind {
+            Ok(())
+        } else {
+            Err(Refusal::SpeciesUnfit)
         }
     }
 

@@ -1,6 +1,7 @@
 //! The store: real cells, looked at segment by segment.
 
 use super::buffer::Buffer;
+use crate::rules::element::Element;
 use crate::rules::sizes::{MOST_SEGMENTS, SEGMENT_CELLS};
 use crate::rules::species::Species;
 use std::ops::Range;
@@ -51,15 +52,16 @@ impl Store {
         (cell, 32 - species.width() - bits_before % 32)
     }
 
-    pub fn element(&self, segment: Segment, species: Species, offset: u32) -> u32 {
+    pub fn element(&self, segment: Segment, species: Species, offset: u32) -> Element {
         let (cell, height) = Store::element_place(segment, species, offset);
-        species.narrowed(self.buffer.cells[cell] >> height)
+        species.element_of(self.buffer.cells[cell] >> height & species.mask())
     }
 
-    pub fn put_element(&mut self, segment: Segment, species: Species, offset: u32, element: u32) {
+    /// Puts an element that the species takes.
+    pub fn put_element(&mut self, segment: Segment, species: Species, offset: u32, element: Element) {
         let (cell, height) = Store::element_place(segment, species, offset);
         let others = self.buffer.cells[cell] & !(species.mask() << height);
-        self.buffer.cells[cell] = others | (species.narrowed(element) << height);
+        self.buffer.cells[cell] = others | species.bits_of(element) << height;
     }
 
     /// "Taken for a stretch that had none, it is zeroed before use."
@@ -82,7 +84,7 @@ impl Default for Store {
 #[cfg(test)]
 mod tests {
     use super::{Segment, Store};
-    use crate::rules::species::Species;
+    use crate::rules::species::{Species, SPECIES};
 
     #[test]
     fn width_four_position_ten() {
@@ -93,16 +95,29 @@ mod tests {
         assert_eq!(store.element(Segment(0), species, species.offset_of(10)), 10);
     }
 
+    /// "signed temperatures ... in 16 bits, the top bit counting minus 32,768", most significant first as in every width.
+    #[test]
+    fn signed_elements_in_cells() {
+        let species = Species::from_number(6).expect("a species");
+        let mut store = Store::new();
+        for (offset, element) in [(0, -1), (1, -32_768), (2, 32_767), (3, -2), (127, 5)] {
+            store.put_element(Segment(0), species, offset, element);
+            assert_eq!(store.element(Segment(0), species, offset), element);
+        }
+        assert_eq!(store.buffer.cells[..3], [0xFFFF_8000, 0x7FFF_FFFE, 0]);
+        assert_eq!(store.buffer.cells[62..65], [0, 5, 0]);
+    }
+
     #[test]
     fn neighbours_keep_their_bits() {
-        for number in 0..6 {
+        for number in 0..SPECIES as u32 {
             let species = Species::from_number(number).expect("a species");
             let mut store = Store::new();
             store.buffer.cells.fill(u32::MAX);
             store.put_element(Segment(1), species, 3, 0);
             for offset in 0..8 {
                 let wanted = if offset == 3 { 0 } else { species.mask() };
-                assert_eq!(store.element(Segment(1), species, offset), wanted);
+                assert_eq!(species.bits_of(store.element(Segment(1), species, offset)), wanted);
             }
         }
     }

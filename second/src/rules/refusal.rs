@@ -1,5 +1,7 @@
 //! "The numbers a refusal carries."
 
+use super::element::Element;
+
 #[derive(Clone, Copy, PartialEq, Eq, Debug)]
 pub enum Refusal {
     UserAboveSeven = 1,
@@ -20,10 +22,13 @@ pub enum Refusal {
     NameTaken = 16,
     NoFreePlace = 17,
     NotToBePublic = 18,
-    SpeciesAboveFive = 19,
+    // No such species where a file is opened; a species of the other kind where an element is written or read.
+    SpeciesUnfit = 19,
     TablesOrStoreUnfit = 20,
     NoOwnPointerLeft = 21,
     ImageUnfit = 22,
+    // Document 02: "A number too wide for its species, or outside its range where it is signed, is now refused".
+    NumberOutOfRange = 23,
 }
 
 impl Refusal {
@@ -33,5 +38,5 @@ impl Refusal {
 }
 
 /// "An answer is either done, with its number where there is one, or refused, with one of these inside it."
-/// Where the rules give no number, the number is 0.
-pub type Answer = Result<u32, Refusal>;
+/// Where the rules give no number, the number is 0; where it is an element of species 6, it may be below 0.
+pub type Answer = Result<Element, Refusal>;

@@ -3,7 +3,10 @@
 use super::mode::Mode;
 use super::teller::Teller;
 use crate::cells::fields::all_entries;
+use crate::model::file::File;
+use crate::model::opening::Opening;
 use crate::model::record::Record;
+use crate::rules::element::Kind;
 use crate::rules::name::Name;
 
 /// Byte strings, some of which make one name, some none.
@@ -33,7 +36,12 @@ const NAMES: [&[u8]; 20] = [
 impl Teller {
     /// Whether something odd is to be said where a good thing could be.
     pub fn slip(&mut self, percent: u32) -> bool {
-        self.mode != Mode::Calm && self.random.chance(percent)
+        !self.is_calm() && self.random.chance(percent)
+    }
+
+    /// A calm history pokes nothing and says nothing odd.
+    pub fn is_calm(&self) -> bool {
+        self.mode == Mode::Calm
     }
 
     pub fn a_user(&mut self) -> u32 {
@@ -81,10 +89,13 @@ impl Teller {
     }
 
     pub fn an_entry_with_permit(&mut self) -> (u32, u32) {
+        self.an_entry_with_permit_where(|_| true)
+    }
+
+    pub fn an_entry_with_permit_where(&mut self, wanted: impl Fn(&File) -> bool) -> (u32, u32) {
+        let permits = |opening: &Opening| opening.permit && wanted(&opening.file);
         let permitted = match self.catalogue() {
-            Some(catalogue) => {
-                self.entries_where(|user, entry| catalogue.opening(user, entry).map_or(false, |opening| opening.permit))
-            }
+            Some(catalogue) => self.entries_where(|user, entry| catalogue.opening(user, entry).map_or(false, permits)),
             None => Vec::new(),
         };
         self.mostly_from(&permitted)
@@ -107,14 +118,15 @@ impl Teller {
 
     pub fn a_species(&mut self) -> u32 {
         if self.slip(8) {
-            return self.random.pick(&[6, 7, 8, 4_294_967_295]);
+            return self.random.pick(&[7, 8, 9, 4_294_967_295]);
         }
-        match self.random.chance(50) {
+        match self.random.chance(40) {
             true => 5,
-            false => self.random.below(6),
+            false => self.a_known_species(),
         }
     }
 
+    /// A value for a cell of any kind.
     pub fn a_number(&mut self) -> u32 {
         match self.random.below(4) {
             0 => self.random.below(4),
@@ -151,6 +163,10 @@ impl Teller {
     /// One of the records that list segments.
     pub fn a_record_with_segments(&mut self) -> Option<(usize, Record)> {
         self.a_record_where(|record| !record.file.segments().is_empty())
+    }
+
+    pub fn a_signed_record(&mut self) -> Option<(usize, Record)> {
+        self.a_record_where(|record| record.file.species().kind() == Kind::Signed)
     }
 
     fn a_record_where(&mut self, wanted: impl Fn(&Record) -> bool) -> Option<(usize, Record)> {

@@ -54,7 +54,7 @@ impl Teller {
         if another.owner as u32 == user && self.random.chance(60) {
             self.say_with_name("work", user, entry, &text_of(&another.name));
         } else {
-            let species = self.random.below(6);
+            let species = self.a_known_species();
             self.say(format!("new {} {} {}", user, entry, species));
         }
         self.append_some(user, entry, 1);

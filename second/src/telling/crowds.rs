@@ -14,7 +14,7 @@ impl Teller {
                 break;
             }
             let (user, entry) = self.a_closed_entry();
-            let species = self.random.below(6);
+            let species = self.a_known_species();
             self.say(format!("new {} {} {}", user, entry, species));
             if self.random.chance(10) {
                 self.append_some(user, entry, 1);
@@ -71,7 +71,7 @@ impl Teller {
             true => self.an_entry_with_permit(),
             false => self.an_open_entry(),
         };
-        for _ in 0..self.random.between(3, 10) {
+        for _ in 0..self.random.between(4, 11) {
             let given = self.random.pick(&[0, 1, 1, 2, 2, 3, 4, 5, 7, 8]);
             self.say(format!("pointer {} {} {}", user, entry, given));
         }
@@ -105,6 +105,7 @@ impl Teller {
         for _ in 0..self.random.between(1, 4) {
             let (user, entry) = self.an_entry_with_permit();
             self.append_some(user, entry, 70);
+            self.write_too_wide(user, entry);
             self.say("free 1");
         }
     }

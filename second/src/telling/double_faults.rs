@@ -6,13 +6,17 @@ use crate::cells::image::IMAGE_LENGTH;
 
 impl Teller {
     pub fn make_double_faults(&mut self) {
-        for _ in 0..self.random.between(1, 3) {
-            match self.random.below(6) {
+        for _ in 0..self.random.between(1, 4) {
+            match self.random.below(7) {
                 0 => self.open_an_open_entry(),
                 1 => self.misuse_a_read_opening(),
                 2 => self.ask_for_nothing_of_nobody(),
                 3 => self.save_and_load_with_two_wrong_lengths(),
                 4 => self.run_with_and_without_elements(),
+                5 => {
+                    let (user, entry) = self.an_open_entry();
+                    self.cross_kinds(user, entry);
+                }
                 _ => self.save_unsound_tables(),
             }
         }
@@ -20,7 +24,7 @@ impl Teller {
 
     fn open_an_open_entry(&mut self) {
         let (user, entry) = self.an_open_entry();
-        let species = self.random.pick(&[5, 6, 7, u32::MAX]);
+        let species = self.random.pick(&[6, 7, 8, u32::MAX]);
         self.say(format!("new {} {} {}", user, entry, species));
         self.say(format!("work {} {}", user, entry));
         self.say(format!("read {} {} neverused", user, entry));
@@ -32,8 +36,13 @@ impl Teller {
         let (user, entry) = self.an_open_entry();
         for pointer in [0, 1, 2, 3, 7, 8] {
             let word = self.random.pick(&["next", "prev"]);
-            self.say(format!("{} {} {} {}", word, user, entry, pointer));
-            self.say(format!("write {} {} {} 1", user, entry, pointer));
+            self.step(word, user, entry, pointer);
+            match self.random.chance(50) {
+                true => self.write_out_of_range(user, entry, pointer),
+                false => {
+                    self.write(user, entry, pointer);
+                }
+            }
         }
         for pointer in [0, 0, 2, 8] {
             self.run_through(user, entry, pointer);
@@ -43,14 +52,18 @@ impl Teller {
     }
 
     fn ask_for_nothing_of_nobody(&mut self) {
-        let user = self.random.pick(&[7, 8]);
+        let user = self.random.pick(&[7, 8, 8]);
         let entry = self.random.pick(&[3, 4]);
-        self.say(format!("new {} {} 6", user, entry));
+        self.say(format!("new {} {} 7", user, entry));
         self.say(format!("work {} {} ", user, entry));
         self.say(format!("write {} {} 9 9", user, entry));
+        self.say(format!("write_signed {} {} 9 -99999", user, entry));
+        self.say(format!("prev_signed {} {} 9", user, entry));
         self.say(format!("delete {} {} 1", user, entry));
         self.say(format!("pointer {} {} 9", user, entry));
-        self.run_through(user, entry, 9);
+        for _ in 0..2 {
+            self.run_through(user, entry, 9);
+        }
     }
 
     fn save_and_load_with_two_wrong_lengths(&mut self) {

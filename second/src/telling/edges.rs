@@ -2,13 +2,14 @@
 
 use super::forging::Shape;
 use super::teller::Teller;
+use crate::model::opening::{BEGIN, END};
 use crate::rules::sizes::GREATEST_END;
 
 impl Teller {
     /// A new file whose positions are nearly used up.
     pub fn use_up_positions(&mut self) {
         let (user, entry) = self.a_closed_entry();
-        let species = self.random.below(6);
+        let species = self.a_known_species();
         let opened = self.say(format!("new {} {} {}", user, entry, species));
         if self.gives_up_after(&opened) {
             return;
@@ -54,7 +55,7 @@ impl Teller {
             self.say("fresh");
         }
         let (user, entry) = self.a_closed_entry();
-        let species = self.random.below(6);
+        let species = self.a_known_species();
         let opened = self.say(format!("new {} {} {}", user, entry, species));
         if self.gives_up_after(&opened) {
             return;
@@ -65,7 +66,7 @@ impl Teller {
         };
         self.reshape_opening(user, entry, &shape);
         self.inquire_all(user, entry);
-        if self.random.chance(60) {
+        for _ in 0..self.random.between(1, 2) {
             let count = self.random.between(2, 8);
             self.append_a_run(user, entry, count);
         }
@@ -83,10 +84,10 @@ impl Teller {
     /// Appends, drops at both ends, reads and writes in between.
     fn work_at_the_edge(&mut self, user: u32, entry: u32) {
         for _ in 0..self.random.between(4, 24) {
-            match self.random.weighted(&[9, 4, 4, 3, 2, 2, 1]) {
+            match self.random.weighted(&[9, 4, 4, 3, 2, 2, 2, 1]) {
                 0 => self.append_some(user, entry, 1),
                 1 => {
-                    self.say(format!("prev {} {} 1", user, entry));
+                    self.prev(user, entry, END);
                 }
                 2 => {
                     let pointer = self.a_pointer();
@@ -94,16 +95,17 @@ impl Teller {
                 }
                 3 => {
                     self.say(format!("pointer {} {} 1", user, entry));
-                    self.say(format!("prev {} {} 3", user, entry));
-                    self.say(format!("write {} {} 3 12345", user, entry));
+                    self.prev(user, entry, 3);
+                    self.write(user, entry, 3);
                 }
                 4 => {
-                    self.say(format!("next {} {} 0", user, entry));
+                    self.next(user, entry, BEGIN);
                 }
                 5 => {
                     let few = self.random.between(1, 5);
                     self.append_a_run(user, entry, few);
                 }
+                6 => self.write_too_wide(user, entry),
                 _ => self.look(),
             }
         }

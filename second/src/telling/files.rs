@@ -32,12 +32,7 @@ impl Teller {
         if count > 1 && self.random.chance(25) {
             return self.append_a_run(user, entry, count);
         }
-        for _ in 0..count {
-            let number = self.a_number();
-            if self.say(format!("write {} {} 1 {}", user, entry, number)) == "refused 9" {
-                break;
-            }
-        }
+        self.append_one_by_one(user, entry, count);
     }
 
     /// Moves an empty new file to just before the end of some stretch, so that narrow species cross it soon.
@@ -87,22 +82,21 @@ impl Teller {
     fn change_something(&mut self, user: u32, entry: u32) {
         match self.random.weighted(&[20, 14, 10, 6, 12, 6, 3, 3, 6, 4]) {
             0 => {
-                let number = self.a_number();
-                self.say(format!("write {} {} 2 {}", user, entry, number));
+                self.write(user, entry, WORK);
             }
             1 => self.append_some(user, entry, 1),
             2 => {
-                self.say(format!("prev {} {} 1", user, entry));
+                self.prev(user, entry, END);
             }
             3 => {
-                self.say(format!("next {} {} 0", user, entry));
+                self.next(user, entry, BEGIN);
             }
             4 => {
                 let pointer = self.a_pointer();
                 self.access_through(user, entry, pointer);
             }
             5 => {
-                self.say(format!("next {} {} 2", user, entry));
+                self.next(user, entry, WORK);
             }
             6 => {
                 self.say(format!("pointer {} {} {}", user, entry, 1));
@@ -119,9 +113,9 @@ impl Teller {
             }
             // So many that whole segments may be emptied.
             _ => {
-                let (word, pointer) = self.random.pick(&[("prev", 1), ("next", 0)]);
+                let (word, pointer) = self.random.pick(&[("prev", END), ("next", BEGIN)]);
                 for _ in 0..self.random.between(2, 80) {
-                    if self.say(format!("{} {} {} {}", word, user, entry, pointer)).starts_with("refused") {
+                    if self.step(word, user, entry, pointer).starts_with("refused") {
                         break;
                     }
                 }
@@ -149,7 +143,7 @@ impl Teller {
         for pointer in [2, 3] {
             for word in ["next", "prev"] {
                 for _ in 0..self.random.below(25) {
-                    self.say(format!("{} {} {} {}", word, user, entry, pointer));
+                    self.step(word, user, entry, pointer);
                 }
             }
             self.say(format!("pointer {} {} 1", user, entry));

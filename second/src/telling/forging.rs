@@ -21,7 +21,7 @@ pub struct Shape {
 impl Teller {
     /// A shape of so many free segments, at the first stretch, somewhere, or as far up as there are positions.
     pub fn a_shape(&mut self, held: usize) -> Option<Shape> {
-        let species = Species::from_number(self.random.below(6))?;
+        let species = Species::from_number(self.a_known_species())?;
         let segments = self.some_free_segments(held);
         let held = segments.len() as u32;
         if held == 0 {

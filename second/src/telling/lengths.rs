@@ -20,6 +20,9 @@ impl Teller {
         self.say("tidy");
         self.some_calls();
         if self.random.chance(50) {
+            self.run_with_and_without_elements();
+        }
+        if self.random.chance(50) {
             self.say("fresh");
         }
         let image = self.random.below(4);

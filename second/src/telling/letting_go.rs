@@ -76,17 +76,28 @@ impl Teller {
         let (first, last) = elements_in_outer_stretches(&record.file);
         if last <= MOST_DROPPED_ONE_BY_ONE && self.random.chance(60) {
             for _ in 0..last {
-                self.say(format!("prev {} {} {}", user, entry, END));
+                self.prev(user, entry, END);
             }
         } else {
-            let list = self.a_list_of(first);
-            match self.random.chance(50) {
-                true => self.write_run(user, entry, BEGIN, list),
-                false => self.fill_run(user, entry, BEGIN, list),
-            };
+            self.drop_from_the_begin(user, entry, first);
         }
         let word = self.random.pick(&["close", "close", "public"]);
         self.end_surely(word, user, entry);
+    }
+
+    /// By a run written or filled; a signed file has none.
+    pub fn drop_from_the_begin(&mut self, user: u32, entry: u32, count: u32) {
+        if self.is_signed(user, entry) {
+            for _ in 0..count {
+                self.next(user, entry, BEGIN);
+            }
+        } else if self.random.chance(50) {
+            let list = self.a_list_to_write(user, entry, count);
+            self.write_run(user, entry, BEGIN, list);
+        } else {
+            let list = self.a_list_to_fill(user, entry, count);
+            self.fill_run(user, entry, BEGIN, list);
+        }
     }
 
     /// "before a write into a shared segment, that segment is copied to a taken one": after a close the old one is free,
@@ -97,8 +108,7 @@ impl Teller {
             None => return,
         };
         self.say(format!("reset {} {}", user, entry));
-        let number = self.a_number();
-        self.say(format!("write {} {} {} {}", user, entry, WORK, number));
+        self.write(user, entry, WORK);
         if self.random.chance(40) {
             self.run_through(user, entry, WORK);
         }
@@ -129,7 +139,7 @@ mod tests {
 
     #[test]
     fn outer_stretches() {
-        let species = Species::from_number(5).expect("0 to 5");
+        let species = Species::from_number(5).expect("0 to 6");
         let of = |begin, end, held| {
             let segments: Vec<Segment> = (0..held).map(Segment).collect();
             elements_in_outer_stretches(&File::read_from(&Store::new(), species, begin, end, &segments))

@@ -12,7 +12,7 @@ impl Teller {
         let name = self.a_name_for_several();
         let users: Vec<u32> = (0..4).map(|_| self.random.below(8)).collect();
         let mut opened = Vec::new();
-        for _ in 0..self.random.between(2, 4) {
+        for _ in 0..self.random.between(3, 5) {
             for _ in 0..self.random.between(2, 6) {
                 let user = self.random.pick(&users);
                 if let Some(entry) = self.ask_by_name(user, &name) {
@@ -56,7 +56,7 @@ impl Teller {
         for word in ["species", "begin", "end"] {
             self.say(format!("{} {} {}", word, user, entry));
         }
-        self.say(format!("next {} {} {}", user, entry, WORK));
+        self.next(user, entry, WORK);
         Some(entry)
     }
 
@@ -67,7 +67,7 @@ impl Teller {
             let new_name = self.a_name();
             self.say_with_name("rename", user, entry, &new_name);
         }
-        match self.random.weighted(&[20, 20, 15, 45]) {
+        match self.random.weighted(&[15, 15, 15, 55]) {
             0 => self.say(format!("close {} {}", user, entry)),
             1 => self.say(format!("abandon {} {}", user, entry)),
             2 => self.say(format!("public {} {}", user, entry)),
@@ -78,7 +78,7 @@ impl Teller {
     /// A new file that gets this name, unless its owner has one already, or it is closed as public and one is public.
     fn make_a_namesake(&mut self, owner: u32, name: &[u8]) {
         let entry = self.closed_entry_of(owner);
-        let species = self.random.below(6);
+        let species = self.a_known_species();
         let opened = self.say(format!("new {} {} {}", owner, entry, species));
         if self.gives_up_after(&opened) {
             return;

@@ -3,7 +3,7 @@
 use super::arguments::text_of;
 use super::mode::Mode;
 use super::teller::Teller;
-use crate::model::opening::{BEGIN, END, WORK};
+use crate::model::opening::{END, WORK};
 use crate::text::answering::LIST_LENT_AT_FIRST;
 
 impl Teller {
@@ -12,6 +12,11 @@ impl Teller {
         let (user, entry) = self.a_file_for_runs();
         if !self.is_open(user, entry) && self.random.chance(80) {
             return;
+        }
+        // Species 6 has no runs: mostly its own calls are made.
+        if self.is_signed(user, entry) && self.random.chance(80) {
+            self.use_a_signed_file(user, entry);
+            return self.end_work(user, entry);
         }
         for _ in 0..self.random.between(2, 6) {
             match self.random.weighted(&[20, 12, 24, 8, 16, 10]) {
@@ -71,9 +76,13 @@ impl Teller {
             self.say(format!("reset {} {}", user, entry));
         }
         let length = self.a_list_length();
-        let list = self.a_list_of(length);
+        let list = self.a_list_to_fill(user, entry, length);
         self.fill_run(user, entry, WORK, list);
-        let (to_user, to_entry) = self.an_entry_with_permit();
+        let species = self.species_at(user, entry);
+        let (to_user, to_entry) = match self.random.chance(70) {
+            true => self.an_entry_with_permit_where(|file| Some(file.species()) == species),
+            false => self.an_entry_with_permit(),
+        };
         self.write_run(to_user, to_entry, END, list);
         self.say(format!("end {} {}", to_user, to_entry));
     }
@@ -81,12 +90,8 @@ impl Teller {
     /// Elements leave the file at its begin; the work pointer, which stays, may then stand below it.
     fn drop_by_runs(&mut self, user: u32, entry: u32) {
         let length = self.random.pick(&[1, 2, 3, 5, LIST_LENT_AT_FIRST as u32, 64]);
-        let list = self.a_list_of(length);
-        match self.random.chance(50) {
-            true => self.write_run(user, entry, BEGIN, list),
-            false => self.fill_run(user, entry, BEGIN, list),
-        };
-        for _ in 0..self.random.below(3) {
+        self.drop_from_the_begin(user, entry, length);
+        for _ in 0..self.random.between(1, 3) {
             self.run_through(user, entry, WORK);
         }
         self.say(format!("begin {} {}", user, entry));
@@ -96,11 +101,11 @@ impl Teller {
     fn replace_by_runs(&mut self, user: u32, entry: u32) {
         self.say(format!("reset {} {}", user, entry));
         for _ in 0..self.random.below(3) {
-            self.say(format!("next {} {} {}", user, entry, WORK));
+            self.next(user, entry, WORK);
         }
         let made = self.say(format!("pointer {} {} {}", user, entry, WORK));
         let length = self.a_list_length();
-        let list = self.a_list_of(length);
+        let list = self.a_list_to_write(user, entry, length);
         self.write_run(user, entry, WORK, list);
         if let Some(own) = made.strip_prefix("done ").and_then(|name| name.parse().ok()) {
             let other_list = self.a_list();
@@ -109,15 +114,16 @@ impl Teller {
         }
     }
 
-    /// The same runs of no element and of one: refusals 20, 1, 2, 4 and 5 come with both, others with one alone.
+    /// The same runs of no element and of one: refusals 20, 1, 2, 19, 4 and 5 come with both, others with one alone.
     pub fn run_with_and_without_elements(&mut self) {
-        let (user, entry) = match self.slip(20) {
+        let (user, entry) = match self.slip(35) {
             false => self.an_open_entry(),
-            true => self.random.pick(&[(8, 0), (8, 4), (7, 4), (u32::MAX, u32::MAX), (3, 3)]),
+            true => self.random.pick(&[(8, 0), (8, 4), (7, 4), (u32::MAX, u32::MAX), (u32::MAX, 0)]),
         };
         let pointer = self.random.pick(&[0, 0, 1, 2, 3, 7, 8, u32::MAX]);
         for length in [0, 1] {
-            let list = self.a_list_of(length);
+            let list = self.a_list();
+            self.lend_list(list, length);
             self.write_run(user, entry, pointer, list);
             self.fill_run(user, entry, pointer, list);
         }

@@ -4,14 +4,14 @@ use super::mode::Mode;
 use super::teller::Teller;
 
 /// How often each story is told, in the order of `tell_a_story`.
-fn weights(mode: Mode) -> [u32; 24] {
+fn weights(mode: Mode) -> [u32; 26] {
     match mode {
-        Mode::Mixed => [16, 12, 18, 8, 8, 5, 2, 3, 4, 6, 3, 12, 3, 8, 4, 4, 5, 5, 4, 5, 4, 12, 13, 20],
-        Mode::Calm => [20, 20, 24, 12, 12, 7, 2, 4, 0, 0, 0, 0, 0, 0, 0, 0, 0, 5, 0, 0, 0, 14, 15, 20],
-        Mode::Small => [16, 20, 20, 8, 8, 3, 1, 10, 2, 2, 0, 3, 1, 3, 1, 1, 2, 4, 2, 1, 2, 14, 7, 18],
-        Mode::Edge => [6, 4, 8, 6, 4, 2, 1, 1, 16, 20, 14, 2, 2, 2, 1, 1, 1, 4, 2, 1, 1, 8, 6, 12],
-        Mode::Damage => [6, 10, 8, 3, 6, 2, 1, 1, 2, 4, 1, 36, 8, 24, 9, 9, 8, 5, 3, 3, 5, 12, 6, 12],
-        Mode::Bytes => [10, 8, 8, 4, 4, 2, 1, 1, 1, 1, 1, 2, 1, 2, 1, 1, 2, 2, 1, 50, 3, 6, 6, 2],
+        Mode::Mixed => [16, 12, 18, 8, 8, 5, 2, 3, 4, 6, 3, 12, 3, 8, 4, 4, 5, 5, 4, 5, 6, 12, 18, 28, 7, 5],
+        Mode::Calm => [20, 20, 24, 12, 12, 7, 2, 4, 0, 0, 0, 0, 0, 0, 0, 0, 0, 5, 0, 0, 0, 14, 18, 24, 9, 6],
+        Mode::Small => [16, 20, 20, 8, 8, 3, 1, 10, 2, 2, 0, 3, 1, 3, 1, 1, 2, 4, 2, 1, 2, 14, 7, 18, 7, 6],
+        Mode::Edge => [6, 4, 8, 6, 4, 2, 1, 1, 16, 20, 14, 2, 2, 2, 1, 1, 1, 4, 2, 1, 1, 8, 6, 12, 6, 4],
+        Mode::Damage => [6, 10, 8, 3, 6, 2, 1, 1, 2, 4, 1, 36, 8, 24, 9, 9, 8, 5, 3, 3, 5, 12, 6, 12, 8, 4],
+        Mode::Bytes => [10, 8, 8, 4, 4, 2, 1, 1, 1, 1, 1, 2, 1, 2, 1, 1, 2, 2, 1, 50, 3, 6, 6, 2, 5, 3],
     }
 }
 
@@ -19,7 +19,7 @@ fn weights(mode: Mode) -> [u32; 24] {
 const NEW_STARTS: u32 = 2;
 
 /// After so many lines one of the stories comes up that lead to what chance alone reaches seldom.
-const LINES_BETWEEN_RARE_STORIES: usize = 300;
+const LINES_BETWEEN_RARE_STORIES: usize = 200;
 
 impl Teller {
     pub fn tell_a_story(&mut self) {
@@ -55,20 +55,26 @@ impl Teller {
             20 => self.make_double_faults(),
             21 => self.use_runs(),
             22 => self.ask_for_namesakes(),
-            _ => self.scatter_and_tidy(),
+            23 => self.scatter_and_tidy(),
+            24 => self.keep_temperatures(),
+            _ => self.meet_wide_numbers(),
         }
         self.look();
     }
 
     fn tell_a_rare_story(&mut self) {
-        match self.rare_stories % 8 {
-            0 => self.need_a_33rd_segment(),
-            1 => self.clash_with_a_name(),
-            2 => self.use_many_pointers(),
+        match self.rare_stories % 12 {
+            0 | 6 => self.need_a_33rd_segment(),
+            1 | 7 => self.clash_with_a_name(),
+            2 | 8 => self.use_many_pointers(),
             3 => self.contend_for_a_record(),
             4 => self.use_up_positions(),
-            5 => self.use_many_pointers(),
-            6 => self.clash_with_a_name(),
+            5 => self.keep_temperatures(),
+            9 => self.meet_wide_numbers(),
+            10 => {
+                self.run_with_and_without_elements();
+                self.make_double_faults();
+            }
             _ => self.fill_the_catalogue(),
         }
         self.look();

@@ -17,6 +17,9 @@ const FEW_SEGMENTS: usize = 3;
 /// So many openings are mostly ended all at once.
 const MANY_OPENINGS: usize = 5;
 
+/// More elements than this are not read one by one.
+const MOST_READ_ONE_BY_ONE: u32 = 20;
+
 impl Teller {
     /// A catalogue that is scattered or just as it is, and then mostly nothing open.
     pub fn scatter_and_tidy(&mut self) {
@@ -166,15 +169,26 @@ impl Teller {
             return;
         }
         let elements = record.file.end() - record.file.begin();
-        let list = self.a_list_of(elements.min(LIST_CELLS as u32));
-        self.say(format!("nexts {} {} {} {}", user, entry, WORK, list));
-        self.say(format!("sum list{}", list));
+        self.read_elements(user, entry, elements);
         let made = self.say(format!("pointer {} {} {}", user, entry, END));
-        if let Some(own) = made.strip_prefix("done ") {
+        if let Some(own) = made.strip_prefix("done ").and_then(|name| name.parse().ok()) {
             for _ in 0..self.random.between(1, 3) {
-                self.say(format!("prev {} {} {}", user, entry, own));
+                self.prev(user, entry, own);
             }
         }
         self.say(format!("close {} {}", user, entry));
+    }
+
+    /// By a run, as far as a list goes; of a signed file some of them, one by one.
+    fn read_elements(&mut self, user: u32, entry: u32, count: u32) {
+        if self.is_signed(user, entry) {
+            for _ in 0..count.min(MOST_READ_ONE_BY_ONE) {
+                self.next(user, entry, WORK);
+            }
+            return;
+        }
+        let list = self.a_list_to_fill(user, entry, count.min(LIST_CELLS as u32));
+        self.say(format!("nexts {} {} {} {}", user, entry, WORK, list));
+        self.say(format!("sum list{}", list));
     }
 }

@@ -49,7 +49,7 @@ impl Teller {
             ["close", "public", "abandon", "reset", "species", "claim", "permit", "begin", "end", "work", "rename"];
         let word = self.random.pick(&words);
         self.say(format!("{} {} {}", word, user, entry));
-        if self.random.chance(50) {
+        if self.random.chance(80) {
             let pointer = self.a_pointer();
             self.run_through(user, entry, pointer);
         }
@@ -98,16 +98,9 @@ impl Teller {
 
     /// One write, next or prev, or a run of them.
     pub fn access_through(&mut self, user: u32, entry: u32, pointer: u32) {
-        match self.random.weighted(&[10, 5, 5, 4]) {
+        match self.random.weighted(&[20, 4]) {
             0 => {
-                let number = self.a_number();
-                self.say(format!("write {} {} {} {}", user, entry, pointer, number));
-            }
-            1 => {
-                self.say(format!("next {} {} {}", user, entry, pointer));
-            }
-            2 => {
-                self.say(format!("prev {} {} {}", user, entry, pointer));
+                self.access_once(user, entry, pointer);
             }
             _ => self.run_through(user, entry, pointer),
         }

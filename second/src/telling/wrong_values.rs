@@ -81,7 +81,7 @@ impl Teller {
         match kind {
             Kind::Flag => self.random.pick(&[0, 1, 1 - now.min(1), 2]),
             Kind::Owner => self.random.pick(&[0, 1, 2, 3, 7, 8, now ^ 1]),
-            Kind::Species => self.random.pick(&[now.wrapping_add(1), now.wrapping_sub(1), 0, 5, 6]),
+            Kind::Species => self.random.pick(&[now.wrapping_add(1), now.wrapping_sub(1), 0, 5, 6, 7]),
             Kind::Place => match self.a_record() {
                 Some((place, _)) if self.random.chance(50) => place as u32 + 1,
                 _ => self.random.pick(&[0, 0, 1, 2, 63, 64, 65]),

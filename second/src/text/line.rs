@@ -1,7 +1,8 @@
 //! The lines that there are.
 
-use super::words::{entry_and_name, first_word, number, numbers, words, BadLine};
+use super::words::{entry_and_name, first_word, number, numbers, signed_number, words, BadLine};
 use crate::calls::inquiries::Inquiry;
+use crate::rules::element::{Element, Kind};
 use crate::rules::name::Name;
 
 pub const IMAGES: usize = 4;
@@ -11,7 +12,7 @@ pub const LISTS: usize = 2;
 /// What `help`, which is a bad line, is told.
 const HELP: &str = "fresh; save I; load I; tidy; free U; new U E S; work U E NAME; read U E NAME; rename U E NAME; \
     close U E; public U E; abandon U E; reset U E; pointer U E P; delete U E P; write U E P X; next U E P; prev U E P; \
-    writes U E P L; nexts U E P L; species U E; claim U E; permit U E; begin U E; end U E; symbol U E K; value U E P; \
+    write_signed U E P X; next_signed U E P; prev_signed U E P; writes U E P L; nexts U E P L; species U E; claim U E; permit U E; begin U E; end U E; symbol U E K; value U E P; \
     lend BUFFER N; peek BUFFER I; poke BUFFER I V; sum BUFFER";
 
 #[derive(Clone, Copy, PartialEq, Eq, Debug)]
@@ -22,7 +23,8 @@ pub enum BufferName {
     List(usize),
 }
 
-/// One line that is neither empty nor a comment. U is the user and E the entry, always the first two numbers.
+/// One line that is neither empty nor a comment. U is the user and E the entry, always the first two numbers. A plain call
+/// and its signed twin differ by the kind.
 #[derive(Clone, Copy, PartialEq, Eq, Debug)]
 pub enum Line {
     Fresh,
@@ -40,9 +42,9 @@ pub enum Line {
     Reset(u32, u32),
     Pointer(u32, u32, u32),
     Delete(u32, u32, u32),
-    Write(u32, u32, u32, u32),
-    Next(u32, u32, u32),
-    Prev(u32, u32, u32),
+    Write(Kind, u32, u32, u32, Element),
+    Next(Kind, u32, u32, u32),
+    Prev(Kind, u32, u32, u32),
     Writes(u32, u32, u32, usize),
     Nexts(u32, u32, u32, usize),
     Inquire(u32, u32, Inquiry),
@@ -71,9 +73,12 @@ impl Line {
             b"reset" => numbers(rest).map(|[u, e]| Line::Reset(u, e))?,
             b"pointer" => numbers(rest).map(|[u, e, p]| Line::Pointer(u, e, p))?,
             b"delete" => numbers(rest).map(|[u, e, p]| Line::Delete(u, e, p))?,
-            b"write" => numbers(rest).map(|[u, e, p, x]| Line::Write(u, e, p, x))?,
-            b"next" => numbers(rest).map(|[u, e, p]| Line::Next(u, e, p))?,
-            b"prev" => numbers(rest).map(|[u, e, p]| Line::Prev(u, e, p))?,
+            b"write" => write(rest, Kind::Plain)?,
+            b"next" => numbers(rest).map(|[u, e, p]| Line::Next(Kind::Plain, u, e, p))?,
+            b"prev" => numbers(rest).map(|[u, e, p]| Line::Prev(Kind::Plain, u, e, p))?,
+            b"write_signed" => write(rest, Kind::Signed)?,
+            b"next_signed" => numbers(rest).map(|[u, e, p]| Line::Next(Kind::Signed, u, e, p))?,
+            b"prev_signed" => numbers(rest).map(|[u, e, p]| Line::Prev(Kind::Signed, u, e, p))?,
             b"writes" => entry_pointer_and_list(rest).map(|(u, e, p, list)| Line::Writes(u, e, p, list))?,
             b"nexts" => entry_pointer_and_list(rest).map(|(u, e, p, list)| Line::Nexts(u, e, p, list))?,
             b"species" => numbers(rest).map(|[u, e]| Line::Inquire(u, e, Inquiry::Species))?,
@@ -112,6 +117,16 @@ fn image_number(rest: Option<&[u8]>) -> Result<usize, BadLine> {
         Ok(image) if image < IMAGES => Ok(image),
         _ => Err(BadLine("no such image buffer")),
     }
+}
+
+/// "write X through P"; in a `write_signed` X is a signed number, the others are not.
+fn write(rest: Option<&[u8]>, kind: Kind) -> Result<Line, BadLine> {
+    let [user, entry, pointer, x] = words(rest)?;
+    let x = match kind {
+        Kind::Plain => Element::from(number(x)?),
+        Kind::Signed => Element::from(signed_number(x)?),
+    };
+    Ok(Line::Write(kind, number(user)?, number(entry)?, number(pointer)?, x))
 }
 
 /// "L and M name a list buffer (0 or 1)"; another one is not there.

@@ -3,6 +3,10 @@
 use filing::text::answering::Desk;
 
 #[allow(dead_code)]
+pub mod bad_lines;
+#[allow(dead_code)]
+pub mod calls;
+#[allow(dead_code)]
 pub mod lists;
 #[allow(dead_code)]
 pub mod scattered;
