@@ -8,7 +8,9 @@ import ctypes
 import sys
 
 Cell, Cells, Length = ctypes.c_uint32, ctypes.POINTER(ctypes.c_uint32), ctypes.c_size_t
-END, WORK, BITS_16 = 1, 2, 4
+Signed, Answer = ctypes.c_int32, ctypes.c_int64
+END, WORK, BITS_16, SIGNED_16 = 1, 2, 4, 6
+REFUSED = 1 << 32
 
 library = ctypes.CDLL(sys.argv[1])
 library.words.argtypes, library.words.restype = [Cell], ctypes.c_char_p
@@ -21,16 +23,19 @@ class Refused(Exception):
 
 
 def call(word, *arguments):
-    """The number with which a call is done. A name is bytes, all else are numbers."""
+    """The number with which a call is done. A name is bytes, all else are numbers, of which those below zero are signed. Every
+    answer fits into a signed one of 64 bits."""
     values = [(Cells, store), (Length, len(store)), (Cells, tables), (Length, len(tables))]
     for argument in arguments:
-        is_name = isinstance(argument, bytes)
-        values += [(ctypes.c_char_p, argument), (Length, len(argument))] if is_name else [(Cell, argument)]
+        if isinstance(argument, bytes):
+            values += [(ctypes.c_char_p, argument), (Length, len(argument))]
+        else:
+            values += [(Signed if argument < 0 else Cell, argument)]
     function = getattr(library, "dorrivand_" + word)
-    function.argtypes, function.restype = [kind for kind, _ in values], ctypes.c_uint64
+    function.argtypes, function.restype = [kind for kind, _ in values], Answer
     answer = function(*[value for _, value in values])
-    if answer >> 32:
-        raise Refused(library.words(answer & 0xFFFFFFFF).decode())
+    if answer >= REFUSED:
+        raise Refused(library.words(answer - REFUSED).decode())
     return answer
 
 
@@ -67,3 +72,11 @@ call("new", 2, 1, BITS_16)
 print("left:", *run("write_run", 2, 1, END, readings))
 print("filled:", *run("fill_run", 2, 1, WORK, places))
 print("as delivered:", places[:40] == readings[:] and places[40:] == [0] * 10)
+
+call("new", 2, 2, SIGNED_16)
+try:
+    for degrees in 3, -5, -32768, -32769:
+        call("write_signed", 2, 2, END, degrees)
+except Refused as why:
+    print(degrees, "refused:", why)
+print("degrees:", *[call("next_signed", 2, 2, WORK) for _ in range(3)])

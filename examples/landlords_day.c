@@ -18,8 +18,8 @@ static uint32_t *tables;
 
 static void part(const char *words) { printf("\n%s\n", words); }
 
-static void refused(const char *call, uint64_t answer) {
-    printf("    %-30srefused: %s\n", call, dorrivand_words(dorrivand_refused(answer)));
+static void refused(const char *call, uint32_t refusal) {
+    printf("    %-30srefused: %s\n", call, dorrivand_words(refusal));
 }
 
 /* The answer of a call that gives no number. */
@@ -27,7 +27,7 @@ static void did(const char *call, uint64_t answer) {
     if (dorrivand_is_done(answer)) {
         printf("    %-30sdone\n", call);
     } else {
-        refused(call, answer);
+        refused(call, dorrivand_refused(answer));
     }
 }
 
@@ -36,7 +36,16 @@ static void got(const char *call, uint64_t answer) {
     if (dorrivand_is_done(answer)) {
         printf("    %-30s%u\n", call, (unsigned)dorrivand_number(answer));
     } else {
-        refused(call, answer);
+        refused(call, dorrivand_refused(answer));
+    }
+}
+
+/* The answer of a call that gives a signed number. */
+static void got_signed(const char *call, int64_t answer) {
+    if (dorrivand_signed_is_done(answer)) {
+        printf("    %-30s%d\n", call, (int)dorrivand_signed_number(answer));
+    } else {
+        refused(call, dorrivand_signed_refused(answer));
     }
 }
 
@@ -66,6 +75,17 @@ static void read_all(uint32_t user, const char *name) {
     did("close private", dorrivand_close(LENT, user, 1));
 }
 
+/* The same of a file of temperatures. */
+static void read_degrees(uint32_t user, const char *name) {
+    int64_t answer;
+    open_for("reading", name, dorrivand_read(LENT, user, 1, NAMED(name)));
+    do {
+        answer = dorrivand_next_signed(LENT, user, 1, DORRIVAND_WORK);
+        got_signed("next", answer);
+    } while (dorrivand_signed_is_done(answer));
+    did("close private", dorrivand_close(LENT, user, 1));
+}
+
 static void make_two_files(void) {
     part("Landlord 2 makes a file of fault records for lift 7: numbers of 16 bits, private.");
     did("open new", dorrivand_new(LENT, 2, 0, DORRIVAND_BITS_16));
@@ -75,10 +95,11 @@ static void make_two_files(void) {
     did("rename to \"lift 7\"", dorrivand_rename(LENT, 2, 0, NAMED("lift 7")));
     did("close private", dorrivand_close(LENT, 2, 0));
 
-    part("Landlord 5 makes one for door 1: numbers of 8 bits, public. 300 is too wide and loses its top bits.");
+    part("Landlord 5 makes one for door 1: numbers of 8 bits, public. 300 is too wide, and is refused.");
     did("open new", dorrivand_new(LENT, 5, 0, DORRIVAND_BITS_8));
     did("append 12", dorrivand_write(LENT, 5, 0, DORRIVAND_END, 12));
     did("append 300", dorrivand_write(LENT, 5, 0, DORRIVAND_END, 300));
+    did("append 255", dorrivand_write(LENT, 5, 0, DORRIVAND_END, 255));
     did("rename to \"door 1\"", dorrivand_rename(LENT, 5, 0, NAMED("door 1")));
     did("close public", dorrivand_public(LENT, 5, 0));
     got("free segments", dorrivand_free(LENT, 5));
@@ -146,6 +167,19 @@ static void write_and_fill_runs(void) {
     did("close private", dorrivand_close(LENT, 2, 1));
 }
 
+static void keep_temperatures(void) {
+    part("The machine room of lift 7 is cold at night. Temperatures are signed, and have calls of their own.");
+    did("open new", dorrivand_new(LENT, 2, 0, DORRIVAND_SIGNED_16));
+    did("append 3", dorrivand_write_signed(LENT, 2, 0, DORRIVAND_END, 3));
+    did("append -5", dorrivand_write_signed(LENT, 2, 0, DORRIVAND_END, -5));
+    did("append 40000", dorrivand_write_signed(LENT, 2, 0, DORRIVAND_END, 40000));
+    got("next, by the plain call", dorrivand_next(LENT, 2, 0, DORRIVAND_WORK));
+    did("rename to \"frost 7\"", dorrivand_rename(LENT, 2, 0, NAMED("frost 7")));
+    did("close private", dorrivand_close(LENT, 2, 0));
+    got("free segments", dorrivand_free(LENT, 2));
+    read_degrees(2, "frost 7");
+}
+
 static void save_and_load(uint32_t *image) {
     part("In the evening the operator saves. After another fresh start the load brings all back.");
     did("save", dorrivand_save(LENT, image, dorrivand_image_length()));
@@ -156,6 +190,7 @@ static void save_and_load(uint32_t *image) {
     did("load", dorrivand_load(LENT, image, dorrivand_image_length()));
     got("free segments", dorrivand_free(LENT, 2));
     read_all(2, "lift 7");
+    read_degrees(2, "frost 7");
 }
 
 int main(void) {
@@ -172,6 +207,7 @@ int main(void) {
     read_and_be_refused();
     edit();
     write_and_fill_runs();
+    keep_temperatures();
     save_and_load(image);
     free(image);
     free(tables);

@@ -37,7 +37,7 @@ static uint64_t take_last(void) { return dorrivand_prev(LENT, USER, ENTRY, DORRI
 static uint64_t free_segments(void) { return dorrivand_free(LENT, USER); }
 static uint64_t abandon(void) { return dorrivand_abandon(LENT, USER, ENTRY); }
 
-/* What stopped a run, as a call answers it. */
+/* What stopped a run or refused a signed call, as the others answer it. */
 static uint64_t stopped(uint32_t stop) { return stop == 0 ? 0 : ((uint64_t)1 << 32) + stop; }
 
 static uint64_t write_run(uint32_t pointer) {
@@ -55,6 +55,17 @@ static uint64_t take_run(void) {
     return stopped(stop);
 }
 
+static uint64_t new_signed(void) { return dorrivand_new(LENT, USER, ENTRY, DORRIVAND_SIGNED_16); }
+static uint64_t append_signed(void) { return dorrivand_write_signed(LENT, USER, ENTRY, DORRIVAND_END, -5); }
+
+static uint64_t take_first_signed(void) {
+    return stopped(dorrivand_signed_refused(dorrivand_next_signed(LENT, USER, ENTRY, DORRIVAND_BEGIN)));
+}
+
+static uint64_t take_last_signed(void) {
+    return stopped(dorrivand_signed_refused(dorrivand_prev_signed(LENT, USER, ENTRY, DORRIVAND_END)));
+}
+
 struct call {
     const char *name;
     uint64_t (*made)(void);
@@ -64,6 +75,12 @@ struct call {
  * that it had, and the tidying has something to move. */
 static struct call calls[] = {
     {"fresh start", fresh},
+    {"new signed", new_signed},
+    {"write signed", append_signed},
+    {"write signed", append_signed},
+    {"next signed", take_first_signed},
+    {"prev signed", take_last_signed},
+    {"abandon", abandon},
     {"new", open_new},
     {"append", append},
     {"append", append},

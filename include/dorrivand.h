@@ -34,6 +34,7 @@
 #define DORRIVAND_H
 
 #include "dorrivand_answers.h"
+#include "dorrivand_signed.h"
 #include <stddef.h>
 #include <stdint.h>
 
@@ -44,18 +45,20 @@ extern "C" {
 /* A file's standard pointers. */
 enum dorrivand_pointer { DORRIVAND_BEGIN = 0, DORRIVAND_END = 1, DORRIVAND_WORK = 2 };
 
-/* The species, by the width of a file's elements; one of 32 bits is a cell of the store. */
+/* The species, by the width of a file's elements; one of 32 bits is a cell of the store. Those of the last are signed, and
+ * are written and read by the calls of dorrivand_signed.h. */
 enum dorrivand_species {
     DORRIVAND_BITS_1 = 0,
     DORRIVAND_BITS_2 = 1,
     DORRIVAND_BITS_4 = 2,
     DORRIVAND_BITS_8 = 3,
     DORRIVAND_BITS_16 = 4,
-    DORRIVAND_BITS_32 = 5
+    DORRIVAND_BITS_32 = 5,
+    DORRIVAND_SIGNED_16 = 6
 };
 
 /* The version that this header belongs to: it grows by 1 with each change that a caller can notice. */
-#define DORRIVAND_VERSION 5
+#define DORRIVAND_VERSION 6
 
 /* The version of the library that is linked. */
 uint32_t dorrivand_version(void);
@@ -109,7 +112,7 @@ uint64_t dorrivand_free(const uint32_t *store, size_t store_length, const uint32
 /* ---- Opening ---- */
 
 /* New: makes an empty scratch file of the species, with work permit. The work pointer stands at the begin, which is 1.
- * Refusals: 20; 1; 2 (entry above 3); 3; 19. */
+ * Refusals: 20; 1; 2 (entry above 3); 3; 19 (species above 6). */
 uint64_t dorrivand_new(const uint32_t *store, size_t store_length, uint32_t *tables, size_t tables_length,
                        uint32_t user, uint32_t entry, uint32_t species);
 
@@ -168,20 +171,20 @@ uint64_t dorrivand_delete(const uint32_t *store, size_t store_length, uint32_t *
 
 /* ---- Access: v is the value of the pointer, b the begin, e the end ---- */
 
-/* Write: it, its run and tidying are all that writes to the store. Through 1: append, e grows by 1. Through 0: the first
- * element is dropped, no segment is taken and no store cell changes. Else position v is replaced. v grows by 1. A number too
- * wide for the species loses its top bits.
- * Refusals: 20; 1; 2; 4; 5; 6 where v < b; 7 where v >= e, but not through 1; 10; 8; 9. */
+/* Write: it, its run, the signed write and tidying are all that writes to the store. Through 1: append, e grows by 1.
+ * Through 0: the first element is dropped, no segment is taken and no store cell changes. Else position v is replaced. v grows
+ * by 1. No number is cut: one that is too wide for the species is refused, through 0 too.
+ * Refusals: 20; 1; 2; 19 for species 6; 4; 5; 6 where v < b; 7 where v >= e, but not through 1; 23; 10; 8; 9. */
 uint64_t dorrivand_write(uint32_t *store, size_t store_length, uint32_t *tables, size_t tables_length,
                          uint32_t user, uint32_t entry, uint32_t pointer, uint32_t number);
 
 /* Next: delivers position v, v grows by 1. Through 0 the element leaves the file.
- * Refusals: 20; 1; 2; 4; 5 (through 0); 6 where v < b; 7 where v >= e. */
+ * Refusals: 20; 1; 2; 19 for species 6; 4; 5 (through 0); 6 where v < b; 7 where v >= e. */
 uint64_t dorrivand_next(const uint32_t *store, size_t store_length, uint32_t *tables, size_t tables_length,
                         uint32_t user, uint32_t entry, uint32_t pointer);
 
 /* Prev: v falls by 1, delivers that position. Through 1 the element leaves the file.
- * Refusals: 20; 1; 2; 4; 5 (through 1); 6 where v <= b; 7 where v > e. */
+ * Refusals: 20; 1; 2; 19 for species 6; 4; 5 (through 1); 6 where v <= b; 7 where v > e. */
 uint64_t dorrivand_prev(const uint32_t *store, size_t store_length, uint32_t *tables, size_t tables_length,
                         uint32_t user, uint32_t entry, uint32_t pointer);
 
@@ -193,14 +196,14 @@ uint64_t dorrivand_prev(const uint32_t *store, size_t store_length, uint32_t *ta
 
 /* Write a run: writes the list's elements in their order through one pointer. The answer is how many are left unwritten: the
  * last so many of the list.
- * Refusals: 20; 1; 2; 4; 5; 6; 7; 10; 8; 9, as for write; of a list of length 0 only 20; 1; 2; 4; 5. */
+ * Refusals: 20; 1; 2; 19; 4; 5; 6; 7; 23; 10; 8; 9, as for write; of a list of length 0 only 20; 1; 2; 19; 4; 5. */
 size_t dorrivand_write_run(uint32_t *store, size_t store_length, uint32_t *tables, size_t tables_length,
                            uint32_t user, uint32_t entry, uint32_t pointer, const uint32_t *list, size_t list_length,
                            uint32_t *place);
 
 /* Fill a run: puts what next delivers through one pointer into the list's places in their order. The answer is how many it
  * filled: the first so many of the list. The others stay as they were.
- * Refusals: 20; 1; 2; 4; 5 (through 0); 6; 7, as for next; of a list of length 0 only 20; 1; 2; 4; 5 (through 0). */
+ * Refusals: 20; 1; 2; 19; 4; 5 (through 0); 6; 7, as for next; of a list of length 0 only 20; 1; 2; 19; 4; 5 (through 0). */
 size_t dorrivand_fill_run(const uint32_t *store, size_t store_length, uint32_t *tables, size_t tables_length,
                           uint32_t user, uint32_t entry, uint32_t pointer, uint32_t *list, size_t list_length,
                           uint32_t *place);

@@ -1,8 +1,8 @@
 /*
  * What dorrivand.h's calls answer, and why they refuse.
  *
- * The answer is one number of 64 bits: done with n is n, refused for n is 2^32 + n. A run's answer is a number of elements, and
- * its place gets the number of the refusal, or 0.
+ * The answer is one number of 64 bits: done with n is n, refused for n is 2^32 + n. Where the call gives a signed number, it is
+ * a signed one of 64 bits. A run's answer is a number of elements, and its place gets the number of the refusal, or 0.
  */
 #ifndef DORRIVAND_ANSWERS_H
 #define DORRIVAND_ANSWERS_H
@@ -17,6 +17,17 @@ static inline uint32_t dorrivand_number(uint64_t answer) { return (uint32_t)(ans
 
 /* The number of the refusal, 0 where the answer is done. */
 static inline uint32_t dorrivand_refused(uint64_t answer) { return dorrivand_is_done(answer) ? 0 : dorrivand_number(answer); }
+
+/* The same of a signed answer, which is below 2^32 where it is done. */
+static inline int dorrivand_signed_is_done(int64_t answer) { return answer < ((int64_t)1 << 32); }
+
+static inline int32_t dorrivand_signed_number(int64_t answer) {
+    return dorrivand_signed_is_done(answer) ? (int32_t)answer : (int32_t)dorrivand_number((uint64_t)answer);
+}
+
+static inline uint32_t dorrivand_signed_refused(int64_t answer) {
+    return dorrivand_signed_is_done(answer) ? 0 : dorrivand_number((uint64_t)answer);
+}
 
 /* Why a call is refused. 12, which told of another's private file, is no longer given: such a file is unknown, 11. No other
  * refusal has its number. */
@@ -41,7 +52,8 @@ enum dorrivand_refusal {
     DORRIVAND_NO_SUCH_SPECIES = 19,
     DORRIVAND_UNSOUND_TABLES = 20,
     DORRIVAND_NO_POINTER_LEFT = 21,
-    DORRIVAND_UNSOUND_IMAGE = 22
+    DORRIVAND_UNSOUND_IMAGE = 22,
+    DORRIVAND_TOO_WIDE = 23
 };
 
 /* A refusal in words; "unknown" for a number that is none. */
@@ -64,10 +76,11 @@ static inline const char *dorrivand_words(uint32_t refusal) {
     case DORRIVAND_NAME_TAKEN: return "name taken by another record";
     case DORRIVAND_NO_FREE_PLACE: return "new file, no free place";
     case DORRIVAND_NOT_TO_BE_PUBLIC: return "read or scratch closed as public";
-    case DORRIVAND_NO_SUCH_SPECIES: return "species above 5";
+    case DORRIVAND_NO_SUCH_SPECIES: return "species above 6, or of the other kind of call";
     case DORRIVAND_UNSOUND_TABLES: return "tables of wrong length or unsound, or store under 64 cells";
     case DORRIVAND_NO_POINTER_LEFT: return "no own pointer left";
     case DORRIVAND_UNSOUND_IMAGE: return "image of wrong length, or unsound";
+    case DORRIVAND_TOO_WIDE: return "a number too wide for its species, or outside its range where it is signed";
     default: return "unknown";
     }
 }

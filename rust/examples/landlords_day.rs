@@ -2,6 +2,7 @@
 
 use dorrivand::{pointer, Refusal, Species, Store};
 use std::array;
+use std::fmt::Display;
 
 const READINGS: usize = 40;
 
@@ -18,7 +19,7 @@ fn did(call: &str, answer: Result<(), Refusal>) {
 }
 
 /// The answer of a call that gives a number.
-fn got(call: &str, answer: Result<u32, Refusal>) {
+fn got(call: &str, answer: Result<impl Display, Refusal>) {
     match answer {
         Ok(number) => println!("    {call:<30}{number}"),
         Err(refusal) => println!("    {call:<30}refused: {refusal}"),
@@ -46,6 +47,19 @@ fn read_all(store: &mut Store, user: u32, name: &str) {
     did("close private", store.close_private(user, 1));
 }
 
+/// The same of a file of temperatures.
+fn read_degrees(store: &mut Store, user: u32, name: &str) {
+    did(&format!("open for reading \"{name}\""), store.open_read(user, 1, name));
+    loop {
+        let answer = store.next_signed(user, 1, pointer::WORK);
+        got("next", answer);
+        if answer.is_err() {
+            break;
+        }
+    }
+    did("close private", store.close_private(user, 1));
+}
+
 fn make_two_files(store: &mut Store) {
     part("Landlord 2 makes a file of fault records for lift 7: numbers of 16 bits, private.");
     did("open new", store.open_new(2, 0, Species::Bits16));
@@ -55,10 +69,11 @@ fn make_two_files(store: &mut Store) {
     did("rename to \"lift 7\"", store.rename(2, 0, "lift 7"));
     did("close private", store.close_private(2, 0));
 
-    part("Landlord 5 makes one for door 1: numbers of 8 bits, public. 300 is too wide and loses its top bits.");
+    part("Landlord 5 makes one for door 1: numbers of 8 bits, public. 300 is too wide, and is refused.");
     did("open new", store.open_new(5, 0, Species::Bits8));
     did("append 12", store.write(5, 0, pointer::END, 12));
     did("append 300", store.write(5, 0, pointer::END, 300));
+    did("append 255", store.write(5, 0, pointer::END, 255));
     did("rename to \"door 1\"", store.rename(5, 0, "door 1"));
     did("close public", store.close_public(5, 0));
     got("free segments", store.free_segments(5));
@@ -124,6 +139,19 @@ fn write_and_fill_runs(store: &mut Store) {
     did("close private", store.close_private(2, 1));
 }
 
+fn keep_temperatures(store: &mut Store) {
+    part("The machine room of lift 7 is cold at night. Temperatures are signed, and have calls of their own.");
+    did("open new", store.open_new(2, 0, Species::Signed16));
+    did("append 3", store.write_signed(2, 0, pointer::END, 3));
+    did("append -5", store.write_signed(2, 0, pointer::END, -5));
+    did("append 40000", store.write_signed(2, 0, pointer::END, 40_000));
+    got("next, by the plain call", store.next(2, 0, pointer::WORK));
+    did("rename to \"frost 7\"", store.rename(2, 0, "frost 7"));
+    did("close private", store.close_private(2, 0));
+    got("free segments", store.free_segments(2));
+    read_degrees(store, 2, "frost 7");
+}
+
 fn save_and_load(store: &mut Store) {
     part("In the evening the operator saves. After another fresh start the load brings all back.");
     let mut image = vec![0; dorrivand::image_length()];
@@ -135,6 +163,7 @@ fn save_and_load(store: &mut Store) {
     did("load", store.load(&image));
     got("free segments", store.free_segments(2));
     read_all(store, 2, "lift 7");
+    read_degrees(store, 2, "frost 7");
 }
 
 fn main() {
@@ -146,5 +175,6 @@ fn main() {
     read_and_be_refused(&mut store);
     edit(&mut store);
     write_and_fill_runs(&mut store);
+    keep_temperatures(&mut store);
     save_and_load(&mut store);
 }

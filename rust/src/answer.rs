@@ -2,8 +2,12 @@
 
 use crate::refusal::Refusal;
 use crate::species::Species;
+use std::fmt::Display;
 
 pub type Answer = Result<u32, Refusal>;
+
+/// The answer of a call that gives a signed number.
+pub type SignedAnswer = Result<i32, Refusal>;
 
 /// "done n is n, refused n is 2^32 + n".
 pub fn answer(packed: u64) -> Answer {
@@ -12,6 +16,16 @@ pub fn answer(packed: u64) -> Answer {
         (0, _) => Ok(number),
         (1, Some(refusal)) => Err(refusal),
         _ => unknown(packed, "an answer"),
+    }
+}
+
+/// The same of a signed number, which is one of 16 bits.
+pub fn signed_answer(packed: i64) -> SignedAnswer {
+    let number = (packed & i64::from(u32::MAX)) as u32;
+    match (i16::try_from(packed), packed >> 32, Refusal::from_number(number)) {
+        (Ok(number), ..) => Ok(i32::from(number)),
+        (_, 1, Some(refusal)) => Err(refusal),
+        _ => unknown(packed, "a signed answer"),
     }
 }
 
@@ -50,17 +64,14 @@ pub fn stop(number: u32) -> Option<Refusal> {
 pub fn elements_of(list: &[u32], answered: usize) -> usize {
     match answered <= list.len() {
         true => answered,
-        false => unknown(answered as u64, "a number of the list's elements"),
+        false => unknown(answered, "a number of the list's elements"),
     }
 }
 
 /// The library is proved to answer nothing else; another answer means that another library was linked, and then no answer
 /// can be relied upon.
-fn unknown(given: impl Into<u64>, wanted: &str) -> ! {
-    panic!(
-        "the library answered {}, which is not {wanted}: it is not the one that this crate is written for",
-        given.into()
-    )
+fn unknown(given: impl Display, wanted: &str) -> ! {
+    panic!("the library answered {given}, which is not {wanted}: it is not the one that this crate is written for")
 }
 
 #[cfg(test)]
@@ -79,13 +90,45 @@ mod tests {
     fn every_refusal_has_its_number() {
         for refusal in Refusal::ALL {
             assert_eq!(answer((1 << 32) + u64::from(refusal.number())), Err(*refusal));
+            assert_eq!(signed_answer((1 << 32) + i64::from(refusal.number())), Err(*refusal));
         }
+    }
+
+    #[test]
+    fn done_with_a_signed_number() {
+        for number in [-32_768, -1, 0, 1, 32_767] {
+            assert_eq!(signed_answer(i64::from(number)), Ok(number));
+        }
+    }
+
+    #[test]
+    #[should_panic(expected = "32768, which is not a signed answer")]
+    fn a_signed_number_too_great() {
+        let _ = signed_answer(32_768);
+    }
+
+    #[test]
+    #[should_panic(expected = "-32769, which is not a signed answer")]
+    fn a_signed_number_too_small() {
+        let _ = signed_answer(-32_769);
+    }
+
+    #[test]
+    #[should_panic(expected = "not a signed answer")]
+    fn a_signed_refusal_without_a_case() {
+        let _ = signed_answer((1 << 32) + 12);
+    }
+
+    #[test]
+    #[should_panic(expected = "-9223372036854775808, which is not a signed answer")]
+    fn the_least_of_64_bits() {
+        let _ = signed_answer(i64::MIN);
     }
 
     #[test]
     #[should_panic(expected = "not an answer")]
     fn a_refusal_without_a_case() {
-        let _ = answer(0x1_0000_0017);
+        let _ = answer(0x1_0000_0018);
     }
 
     #[test]
@@ -119,9 +162,9 @@ mod tests {
     }
 
     #[test]
-    #[should_panic(expected = "23, which is not what stops a run")]
+    #[should_panic(expected = "24, which is not what stops a run")]
     fn a_stop_without_a_case() {
-        let _ = stop(23);
+        let _ = stop(24);
     }
 
     #[test]
@@ -131,8 +174,8 @@ mod tests {
     }
 
     #[test]
-    #[should_panic(expected = "6, which is not a species")]
+    #[should_panic(expected = "7, which is not a species")]
     fn no_species() {
-        let _ = species(Ok(6));
+        let _ = species(Ok(7));
     }
 }

@@ -1,6 +1,6 @@
 //! The library's exports as safe functions over slices: the only place where they are declared and called.
 
-use crate::answer::{answer, Answer};
+use crate::answer::{answer, signed_answer, Answer, SignedAnswer};
 
 /// For each line a safe function and the declaration of its export, which takes a slice as its pointer and its length, and
 /// a lent place as its pointer.
@@ -26,8 +26,9 @@ macro_rules! door {
             $($rest)*);
     };
     (@ $name:ident $export:ident $result:ident [$($taken:tt)*] [$($declared:tt)*] [$($passed:tt)*]
-        $number:ident: u32, $($rest:tt)*) => {
-        door!(@ $name $export $result [$($taken)* $number: u32,] [$($declared)* _: u32,] [$($passed)* $number,] $($rest)*);
+        $number:ident: $kind:ident, $($rest:tt)*) => {
+        door!(@ $name $export $result [$($taken)* $number: $kind,] [$($declared)* _: $kind,] [$($passed)* $number,]
+            $($rest)*);
     };
     (@ $name:ident $export:ident $result:ident [$($taken:tt)*] [$($declared:tt)*] [$($passed:tt)*] $(,)?) => {
         pub fn $name($($taken)*) -> door!(type of $result) {
@@ -43,8 +44,10 @@ macro_rules! door {
         }
     };
     (type of u64) => { Answer };
+    (type of i64) => { SignedAnswer };
     (type of $result:ident) => { $result };
     (value of u64 $given:ident) => { answer($given) };
+    (value of i64 $given:ident) => { signed_answer($given) };
     (value of $result:ident $given:ident) => { $given };
 }
 
@@ -71,6 +74,10 @@ door! {
     write = dorrivand_write(store: &mut [u32], tables: &mut [u32], user: u32, entry: u32, pointer: u32, number: u32) -> u64;
     next = dorrivand_next(store: &[u32], tables: &mut [u32], user: u32, entry: u32, pointer: u32) -> u64;
     prev = dorrivand_prev(store: &[u32], tables: &mut [u32], user: u32, entry: u32, pointer: u32) -> u64;
+    write_signed = dorrivand_write_signed(store: &mut [u32], tables: &mut [u32], user: u32, entry: u32, pointer: u32,
+        number: i32) -> u64;
+    next_signed = dorrivand_next_signed(store: &[u32], tables: &mut [u32], user: u32, entry: u32, pointer: u32) -> i64;
+    prev_signed = dorrivand_prev_signed(store: &[u32], tables: &mut [u32], user: u32, entry: u32, pointer: u32) -> i64;
     write_run = dorrivand_write_run(store: &mut [u32], tables: &mut [u32], user: u32, entry: u32, pointer: u32,
         list: &[u32], place: &mut u32) -> usize;
     fill_run = dorrivand_fill_run(store: &[u32], tables: &mut [u32], user: u32, entry: u32, pointer: u32,

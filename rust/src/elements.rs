@@ -18,7 +18,7 @@ pub struct Elements<'store, 'cells> {
 impl<'cells> Store<'cells> {
     /// The elements of an open file, from where the pointer stands, each read by [`next`](Store::next): the pointer moves
     /// on with them, and through the [begin](crate::pointer::BEGIN) they leave the file. Beyond the end there are no more; another refusal
-    /// is given once, and is the last.
+    /// is given once, and is the last. Signed elements are refused, as by `next`.
     ///
     /// ```
     /// use dorrivand::{pointer, Refusal, Species, Store};

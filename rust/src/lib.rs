@@ -29,6 +29,27 @@
 //! # }
 //! ```
 //!
+//! # Numbers
+//!
+//! No number is cut: one that is too wide for the file's species is refused. Degrees below zero are elements of
+//! [`Species::Signed16`], which has calls of its own, that take and give signed numbers: [`Store::write_signed`],
+//! [`Store::next_signed`] and [`Store::prev_signed`]. They refuse the other species, and the other calls that take or give
+//! elements refuse this one.
+//!
+//! ```
+//! use dorrivand::{pointer, Refusal, Species, Store};
+//!
+//! let mut store = Store::with_segments(16)?;
+//! store.open_new(2, 0, Species::Bits8)?;
+//! assert_eq!(store.write(2, 0, pointer::END, 300), Err(Refusal::TooWide));
+//!
+//! store.open_new(2, 1, Species::Signed16)?;
+//! store.write_signed(2, 1, pointer::END, -5)?;
+//! assert_eq!(store.next_signed(2, 1, pointer::WORK), Ok(-5));
+//! assert_eq!(store.prev(2, 1, pointer::WORK), Err(Refusal::NoSuchSpecies));
+//! # Ok::<(), Refusal>(())
+//! ```
+//!
 //! # Runs
 //!
 //! [`Store::write_run`] writes a list through a pointer and [`Store::fill_run`] fills one. The outcome is that of single

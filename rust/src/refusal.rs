@@ -53,7 +53,7 @@ pub enum Refusal {
     NoFreePlace = 17,
     /// 18: read or scratch closed as public.
     NotToBePublic = 18,
-    /// 19: species above 5.
+    /// 19: species above 6, or of the other kind of call.
     NoSuchSpecies = 19,
     /// 20: tables of wrong length or unsound, or store under 64 cells.
     UnsoundTables = 20,
@@ -61,6 +61,8 @@ pub enum Refusal {
     NoPointerLeft = 21,
     /// 22: image of wrong length, or unsound.
     UnsoundImage = 22,
+    /// 23: a number too wide for its species, or outside its range where it is signed.
+    TooWide = 23,
 }
 
 impl Refusal {
@@ -68,7 +70,7 @@ impl Refusal {
     ///
     /// ```
     /// let numbers: Vec<u32> = dorrivand::Refusal::ALL.iter().map(|refusal| refusal.number()).collect();
-    /// assert_eq!(numbers, (1..=22).filter(|&number| number != 12).collect::<Vec<u32>>());
+    /// assert_eq!(numbers, (1..=23).filter(|&number| number != 12).collect::<Vec<u32>>());
     /// ```
     pub const ALL: &'static [Refusal] = &[
         Refusal::NoSuchUser,
@@ -92,9 +94,10 @@ impl Refusal {
         Refusal::UnsoundTables,
         Refusal::NoPointerLeft,
         Refusal::UnsoundImage,
+        Refusal::TooWide,
     ];
 
-    /// The refusal's number, 1 to 22 but 12.
+    /// The refusal's number, 1 to 23 but 12.
     #[must_use]
     pub const fn number(self) -> u32 {
         self as u32
@@ -108,7 +111,7 @@ impl Refusal {
     /// assert_eq!(Refusal::from_number(9), Some(Refusal::NoRoom));
     /// assert_eq!(Refusal::from_number(0), None);
     /// assert_eq!(Refusal::from_number(12), None);
-    /// assert_eq!(Refusal::from_number(23), None);
+    /// assert_eq!(Refusal::from_number(24), None);
     /// ```
     #[must_use]
     pub fn from_number(number: u32) -> Option<Refusal> {
@@ -134,10 +137,11 @@ impl Refusal {
             Refusal::NameTaken => "name taken by another record",
             Refusal::NoFreePlace => "new file, no free place",
             Refusal::NotToBePublic => "read or scratch closed as public",
-            Refusal::NoSuchSpecies => "species above 5",
+            Refusal::NoSuchSpecies => "species above 6, or of the other kind of call",
             Refusal::UnsoundTables => "tables of wrong length or unsound, or store under 64 cells",
             Refusal::NoPointerLeft => "no own pointer left",
             Refusal::UnsoundImage => "image of wrong length, or unsound",
+            Refusal::TooWide => "a number too wide for its species, or outside its range where it is signed",
         }
     }
 }

@@ -1,6 +1,9 @@
-//! How wide a file's elements are.
+//! How wide a file's elements are, and whether they have a sign.
 
-/// How wide a file's elements are. Calls take a species or its number.
+/// How wide a file's elements are, and whether they have a sign. Calls take a species or its number.
+///
+/// A number that is no element of the species is [refused](crate::Refusal::TooWide). Signed elements are written and read by
+/// [calls of their own](crate#numbers).
 ///
 /// ```
 /// use dorrivand::{Refusal, Species, Store};
@@ -10,7 +13,7 @@
 /// store.open_new(0, 1, 4)?;
 /// assert_eq!(store.species(0, 1), Ok(Species::Bits16));
 /// assert_eq!(u32::from(Species::Bits16), 4);
-/// assert_eq!(store.open_new(0, 2, 6), Err(Refusal::NoSuchSpecies));
+/// assert_eq!(store.open_new(0, 2, 7), Err(Refusal::NoSuchSpecies));
 /// # Ok::<(), Refusal>(())
 /// ```
 #[derive(Clone, Copy, PartialEq, Eq, PartialOrd, Ord, Hash, Debug)]
@@ -29,6 +32,8 @@ pub enum Species {
     Bits16 = 4,
     /// 5: elements of 32 bits, each a cell of the store.
     Bits32 = 5,
+    /// 6: signed elements of 16 bits, -32,768 to 32,767.
+    Signed16 = 6,
 }
 
 impl Species {
@@ -36,12 +41,19 @@ impl Species {
     ///
     /// ```
     /// let numbers: Vec<u32> = dorrivand::Species::ALL.iter().map(|species| species.number()).collect();
-    /// assert_eq!(numbers, [0, 1, 2, 3, 4, 5]);
+    /// assert_eq!(numbers, [0, 1, 2, 3, 4, 5, 6]);
     /// ```
-    pub const ALL: &'static [Species] =
-        &[Species::Bits1, Species::Bits2, Species::Bits4, Species::Bits8, Species::Bits16, Species::Bits32];
+    pub const ALL: &'static [Species] = &[
+        Species::Bits1,
+        Species::Bits2,
+        Species::Bits4,
+        Species::Bits8,
+        Species::Bits16,
+        Species::Bits32,
+        Species::Signed16,
+    ];
 
-    /// The species' number, 0 to 5.
+    /// The species' number, 0 to 6.
     #[must_use]
     pub const fn number(self) -> u32 {
         self as u32
@@ -53,7 +65,7 @@ impl Species {
     /// use dorrivand::Species;
     ///
     /// assert_eq!(Species::from_number(5), Some(Species::Bits32));
-    /// assert_eq!(Species::from_number(6), None);
+    /// assert_eq!(Species::from_number(7), None);
     /// ```
     #[must_use]
     pub fn from_number(number: u32) -> Option<Species> {

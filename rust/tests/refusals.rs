@@ -63,7 +63,8 @@ fn opening() {
     refused(&mut store, 11, |store| store.open_work(0, 0, "his"));
     refused(&mut store, 13, |store| store.open_work(1, 0, "ours"));
     refused(&mut store, 15, |store| store.open_work(1, 0, "\n"));
-    refused(&mut store, 19, |store| store.open_new(1, 0, 6));
+    refused(&mut store, 19, |store| store.open_new(1, 0, 7));
+    refused(&mut store, 19, |store| store.open_new(1, 0, u32::MAX));
     assert_eq!(store.open_read(1, 0, "ours"), Ok(()));
     refused(&mut store, 14, |store| store.open_work(0, 0, "ours"));
 }
@@ -79,6 +80,22 @@ fn access() {
     refused(&mut store, 9, |store| store.write(0, 0, pointer::WORK, 8));
     assert_eq!(store.next(0, 0, pointer::WORK), Ok(7));
     refused(&mut store, 7, |store| store.next(0, 0, pointer::WORK));
+}
+
+#[test]
+fn numbers_and_kinds() {
+    let mut store = three_files();
+    assert_eq!((store.open_new(0, 0, Species::Bits16), store.open_new(0, 1, Species::Signed16)), (Ok(()), Ok(())));
+    refused(&mut store, 23, |store| store.write(0, 0, pointer::END, 65_536));
+    refused(&mut store, 23, |store| store.write_signed(0, 1, pointer::END, 32_768));
+    refused(&mut store, 9, |store| store.write_signed(0, 1, pointer::END, 32_767));
+    refused(&mut store, 19, |store| store.write_signed(0, 0, pointer::END, 7));
+    refused(&mut store, 19, |store| store.next_signed(0, 0, pointer::WORK));
+    refused(&mut store, 19, |store| store.prev_signed(0, 0, pointer::WORK));
+    refused(&mut store, 19, |store| store.write(0, 1, pointer::END, 7));
+    refused(&mut store, 19, |store| store.next(0, 1, pointer::WORK));
+    refused(&mut store, 19, |store| store.prev(0, 1, pointer::WORK));
+    stopped(&mut store, 19, (0, 1), pointer::END);
 }
 
 /// The same refusals stop a run of one element at once: the rest is the whole list, and no place is filled.

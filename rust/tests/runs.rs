@@ -1,6 +1,10 @@
 //! "Runs of elements", through the door: what is left, what is filled, what stops a run, and that it is single calls.
 
+#[path = "common/plain.rs"]
+mod plain;
+
 use dorrivand::{pointer, Refusal, Species, Store};
+use plain::PLAIN;
 
 /// The begin, the end and the work pointer of user 0's entry 0 in the tables (docs/TABLES.md).
 const POINTER_CELLS: [usize; 3] = [3201 + 4, 3201 + 5, 3201 + 6];
@@ -23,7 +27,12 @@ fn store_with(segments: usize, species: Species, elements: &[u32]) -> Store<'sta
 }
 
 fn readings(count: u32) -> Vec<u32> {
-    (0..count).map(|n| n.wrapping_mul(0x9E37_79B9)).collect()
+    fitting(u32::MAX, count)
+}
+
+/// So many numbers up to the greatest of a species.
+fn fitting(greatest: u32, count: u32) -> Vec<u32> {
+    (0..count).map(|n| n.wrapping_mul(0x9E37_79B9) >> greatest.leading_zeros()).collect()
 }
 
 #[test]
@@ -58,14 +67,14 @@ fn the_rest_is_a_part_of_the_callers_own_list() {
 fn stopped_by_the_end() {
     let mut store = store_with(1, Species::Bits8, &[1, 2, 3]);
     assert_eq!(store.next(0, 0, pointer::WORK), Ok(1));
-    let (rest, stop) = store.write_run(0, 0, pointer::WORK, &[12, 300, 14, 15]);
+    let (rest, stop) = store.write_run(0, 0, pointer::WORK, &[12, 13, 14, 15]);
     assert_eq!((rest, stop), (&[14, 15][..], Some(Refusal::BeyondEnd)));
 
     // The places beyond the third stay.
     let own = store.new_pointer(0, 0, pointer::BEGIN).expect("a pointer is left");
     let mut list = [7; 5];
     assert_eq!(store.fill_run(0, 0, own, &mut list), (3, Some(Refusal::BeyondEnd)));
-    assert_eq!(list, [1, 12, 44, 7, 7]);
+    assert_eq!(list, [1, 12, 13, 7, 7]);
 }
 
 #[test]
@@ -150,19 +159,29 @@ fn filled_singly(store: &mut Store, pointer: u32, list: &mut [u32]) -> (usize, O
     (list.len(), None)
 }
 
+/// The same runs and single calls over two stores of these elements, through each standard pointer.
+fn assert_as_single_calls(species: Species, elements: &[u32], list: &[u32]) {
+    let (mut run, mut singly) = (store_with(9, species, elements), store_with(9, species, elements));
+    for pointer in [pointer::END, pointer::WORK, pointer::BEGIN] {
+        let (rest, stop) = run.write_run(0, 0, pointer, list);
+        assert_eq!((rest.len(), stop), written_singly(&mut singly, pointer, list));
+        let (mut one, mut another) = (list.to_vec(), list.to_vec());
+        let filled = run.fill_run(0, 0, pointer, &mut one);
+        assert_eq!((filled, &one), (filled_singly(&mut singly, pointer, &mut another), &another));
+        let (run, singly) = ((run.cells(), run.tables()), (singly.cells(), singly.tables()));
+        assert!(run == singly, "{species:?}, {} elements through {pointer}", list.len());
+    }
+}
+
 #[test]
 fn the_outcome_is_that_of_single_calls() {
-    for (&species, length) in Species::ALL.iter().flat_map(|species| [1, 63, 300, 5000].map(|length| (species, length)))
-    {
-        let (mut run, mut singly) = (store_with(9, species, &readings(200)), store_with(9, species, &readings(200)));
-        let list = readings(length);
-        for pointer in [pointer::END, pointer::WORK, pointer::BEGIN] {
-            let (rest, stop) = run.write_run(0, 0, pointer, &list);
-            assert_eq!((rest.len(), stop), written_singly(&mut singly, pointer, &list));
-            let (mut one, mut another) = (list.clone(), list.clone());
-            let filled = run.fill_run(0, 0, pointer, &mut one);
-            assert_eq!((filled, &one), (filled_singly(&mut singly, pointer, &mut another), &another));
-            assert!((run.cells(), run.tables()) == (singly.cells(), singly.tables()), "{species:?} {length} {pointer}");
+    for (species, greatest) in PLAIN {
+        for length in [1, 63, 300, 5000] {
+            let (elements, mut list) = (fitting(greatest, 200), fitting(greatest, length));
+            assert_as_single_calls(species, &elements, &list);
+            // Too wide for all but 32 bits.
+            list[length as usize / 2] = u32::MAX;
+            assert_as_single_calls(species, &elements, &list);
         }
     }
 }

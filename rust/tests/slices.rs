@@ -7,9 +7,9 @@ fn some_calls(store: &mut Store) -> Result<u32, Refusal> {
     store.fresh_start()?;
     store.open_new(3, 1, Species::Bits2)?;
     for number in 0..750 {
-        store.write(3, 1, pointer::END, number)?;
+        store.write(3, 1, pointer::END, number % 4)?;
     }
-    let more: Vec<u32> = (750..1500).collect();
+    let more: Vec<u32> = (750..1500).map(|number| number % 4).collect();
     assert_eq!(store.write_run(3, 1, pointer::END, &more), (&[][..], None));
     store.rename(3, 1, "a")?;
     store.close_public(3, 1)?;

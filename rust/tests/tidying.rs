@@ -1,9 +1,12 @@
 //! "Tidying", through the door: what moves where, that files read the same, and what becomes of images.
 
 mod common;
+#[path = "common/plain.rs"]
+mod plain;
 
 use common::scattered::*;
 use dorrivand::{pointer, Refusal, Species, Store};
+use plain::PLAIN;
 use std::ops::Range;
 
 /// Of the scattered store's segments.
@@ -11,6 +14,9 @@ const LISTED: usize = 3;
 
 /// Nothing else is open there when somebody reads.
 const READING_ENTRY: u32 = 3;
+
+/// The user who has temperatures, after those with a plain species each.
+const COLD: u32 = PLAIN.len() as u32;
 
 /// "Cell 0: form 8 bits (1), number of segments 11 bits, 13 zero bits."
 fn heading(segments: usize) -> u32 {
@@ -27,6 +33,16 @@ fn elements(store: &mut Store, user: u32, name: &str) -> Vec<u32> {
     let read = store.elements(user, READING_ENTRY, pointer::WORK).collect::<Result<Vec<u32>, _>>();
     assert_eq!(store.close_private(user, READING_ENTRY), Ok(()));
     read.expect("a next is refused at the end alone")
+}
+
+/// The same of a file of temperatures.
+fn degrees(store: &mut Store, user: u32, name: &str) -> Vec<i32> {
+    assert_eq!(store.open_read(user, READING_ENTRY, name), Ok(()));
+    let count = store.end(user, READING_ENTRY).expect("the entry is open") - 1;
+    let read = (0..count).map(|_| store.next_signed(user, READING_ENTRY, pointer::WORK));
+    let read = read.collect::<Result<Vec<i32>, _>>();
+    assert_eq!(store.close_private(user, READING_ENTRY), Ok(()));
+    read.expect("there are so many")
 }
 
 fn assert_scattered_files_read_the_same(store: &mut Store) {
@@ -86,15 +102,22 @@ fn the_next_segment_taken() {
     assert_scattered_files_read_the_same(&mut store);
 }
 
-/// Each of users 0 to 5 has a private file "log", of a species each. They grew by turns, so that their segments are mixed.
+/// Each of users 0 to 5 has a private file "log", of a species each, and user 6 one of temperatures. They grew by turns, so
+/// that their segments are mixed.
 fn store_with_logs(segments: usize) -> Store<'static> {
     let mut store = Store::with_segments(segments).expect("there are segments");
     let users = 0..Species::ALL.len() as u32;
     for (user, &species) in users.clone().zip(Species::ALL) {
         assert_eq!(store.open_new(user, 0, species), Ok(()));
     }
-    for (turn, user) in (0..20).flat_map(|turn| users.clone().map(move |user| (turn, user))) {
-        assert_eq!(store.write_run(user, 0, pointer::END, &a_segment_of(turn + user)[..50]), (&[][..], None));
+    for turn in 0..20 {
+        for (user, (_, greatest)) in users.clone().zip(PLAIN) {
+            let some: Vec<u32> = a_segment_of(turn + user)[..50].iter().map(|number| number & greatest).collect();
+            assert_eq!(store.write_run(user, 0, pointer::END, &some), (&[][..], None));
+        }
+        for &number in &a_segment_of(turn)[..50] {
+            assert_eq!(store.write_signed(COLD, 0, pointer::END, -(number as i32)), Ok(()));
+        }
     }
     for user in users {
         assert_eq!((store.rename(user, 0, "log"), store.close_private(user, 0)), (Ok(()), Ok(())));
@@ -105,12 +128,12 @@ fn store_with_logs(segments: usize) -> Store<'static> {
 /// They do so also where all cells beyond the listed segments are other ones.
 #[test]
 fn files_of_several_species_read_the_same() {
-    const ENOUGH_SEGMENTS: usize = 40;
+    const ENOUGH_SEGMENTS: usize = 50;
     const LEFT: [u32; 4] = [1, 2, 4, 5];
     let mut store = store_with_logs(ENOUGH_SEGMENTS);
     remove(&mut store, 0, "log");
     remove(&mut store, 3, "log");
-    let read_all = |store: &mut Store| LEFT.map(|user| elements(store, user, "log"));
+    let read_all = |store: &mut Store| (LEFT.map(|user| elements(store, user, "log")), degrees(store, COLD, "log"));
     let before = read_all(&mut store);
     let free = store.free_segments(0).expect("sound tables");
 

@@ -47,10 +47,24 @@ fn width_4_position_10_element_10() {
     assert_eq!(store.cells()[..3], [0, 0x0A00_0000, 0]);
 }
 
+/// "A reading of 300 stored as 44 sent a mechanic to a cool motor."
 #[test]
 fn three_hundred_in_species_3() {
-    let mut store = store_with(1, 3, &[300]);
-    assert_eq!(store.next(0, 0, pointer::WORK), Ok(44));
+    let mut store = store_with(1, 3, &[]);
+    assert_eq!(store.write(0, 0, pointer::END, 300), Err(Refusal::TooWide));
+    assert_eq!((store.end(0, 0), store.free_segments(0)), (Ok(1), Ok(1)));
+}
+
+/// "the top bit counting minus 32,768, E = 128"
+#[test]
+fn degrees_below_zero() {
+    let mut store = store_with(1, 6, &[]);
+    for number in [-5, 32_767, -32_768, -1] {
+        assert_eq!(store.write_signed(0, 0, pointer::END, number), Ok(()));
+    }
+    assert_eq!(store.cells()[..3], [0xFFFB_7FFF, 0x8000_FFFF, 0]);
+    assert_eq!(store.claim(0, 0), Ok(128));
+    assert_eq!((store.next_signed(0, 0, pointer::WORK), store.prev_signed(0, 0, pointer::END)), (Ok(-5), Ok(-1)));
 }
 
 #[test]

@@ -116,7 +116,9 @@ fn perform(call: &str, numbers: [u32; 4], name: &[u8], lent: Lent) -> Reply {
             let (filled, stop) = store.fill_run(user, entry, pointer, lent.list);
             Reply::Filled { filled, length, stop }
         }
-        _ => Reply::Single(perform_single(call, numbers, name, &mut store, lent.image)),
+        "next_signed" => Reply::Single(store.next_signed(user, entry, pointer).map(i64::from)),
+        "prev_signed" => Reply::Single(store.prev_signed(user, entry, pointer).map(i64::from)),
+        _ => Reply::Single(perform_single(call, numbers, name, &mut store, lent.image).map(i64::from)),
     }
 }
 
@@ -148,6 +150,7 @@ fn perform_single(
         "write" => nothing(store.write(user, entry, third, fourth)),
         "next" => store.next(user, entry, third),
         "prev" => store.prev(user, entry, third),
+        "write_signed" => nothing(store.write_signed(user, entry, third, fourth as i32)),
         "species" => store.species(user, entry).map(u32::from),
         "claim" => store.claim(user, entry),
         "permit" => store.permit(user, entry).map(u32::from),

@@ -1,10 +1,39 @@
 //! A line of a history, taken apart. The forms are those of `second/`'s text: "work U E NAME", "writes U E P L", ..
 
+use std::str::FromStr;
+
 /// The calls, by the first word of their lines.
-pub const CALLS: [&str; 27] = [
-    "fresh", "save", "load", "tidy", "free", "new", "work", "read", "rename", "close", "public", "abandon", "reset",
-    "pointer", "delete", "write", "next", "prev", "writes", "nexts", "species", "claim", "permit", "symbol", "begin",
-    "end", "value",
+pub const CALLS: [&str; 30] = [
+    "fresh",
+    "save",
+    "load",
+    "tidy",
+    "free",
+    "new",
+    "work",
+    "read",
+    "rename",
+    "close",
+    "public",
+    "abandon",
+    "reset",
+    "pointer",
+    "delete",
+    "write",
+    "next",
+    "prev",
+    "write_signed",
+    "next_signed",
+    "prev_signed",
+    "writes",
+    "nexts",
+    "species",
+    "claim",
+    "permit",
+    "symbol",
+    "begin",
+    "end",
+    "value",
 ];
 
 #[derive(Clone, Copy, PartialEq, Eq, Debug)]
@@ -17,7 +46,7 @@ pub enum Buffers {
 
 #[derive(Clone, Copy, PartialEq, Eq, Debug)]
 pub enum Line<'a> {
-    /// The call's place in `CALLS`, its numbers (0 where it has fewer), and the bytes of its name.
+    /// The call's place in `CALLS`, its numbers (0 where it has fewer, a signed one as its 32 bits), and the bytes of its name.
     Call(usize, [u32; 4], &'a [u8]),
     Lend(Buffers, u32),
     Poke(Buffers, u32, u32),
@@ -42,6 +71,11 @@ impl Line<'_> {
                 let (entry, name) = cut(rest);
                 Some(Line::Call(call(word)?, [number(user)?, number(entry)?, 0, 0], name))
             }
+            "write_signed" => {
+                let (user_to_pointer, signed) = cut_last(rest);
+                let [user, entry, pointer, _] = numbers(user_to_pointer)?;
+                Some(Line::Call(call(word)?, [user, entry, pointer, number::<i32>(signed)? as u32], b""))
+            }
             _ => Some(Line::Call(call(word)?, numbers(rest)?, b"")),
         }
     }
@@ -59,7 +93,15 @@ fn cut(line: &[u8]) -> (&[u8], &[u8]) {
     }
 }
 
-fn number(word: &[u8]) -> Option<u32> {
+/// Up to the last space, and after it.
+fn cut_last(line: &[u8]) -> (&[u8], &[u8]) {
+    match line.iter().rposition(|&byte| byte == b' ') {
+        Some(space) => (&line[..space], &line[space + 1..]),
+        None => (b"", line),
+    }
+}
+
+fn number<N: FromStr>(word: &[u8]) -> Option<N> {
     std::str::from_utf8(word).ok()?.parse().ok()
 }
 
@@ -101,7 +143,11 @@ mod tests {
         assert_eq!(Line::read(b"fresh"), Some(Line::Call(0, [0; 4], b"")));
         assert_eq!(Line::read(b"tidy"), Some(Line::Call(3, [0; 4], b"")));
         assert_eq!(Line::read(b"write 1 2 3 4294967295"), Some(Line::Call(15, [1, 2, 3, u32::MAX], b"")));
-        assert_eq!(Line::read(b"nexts 1 2 3 1"), Some(Line::Call(19, [1, 2, 3, 1], b"")));
+        assert_eq!(Line::read(b"write_signed 1 2 3 -5"), Some(Line::Call(18, [1, 2, 3, -5_i32 as u32], b"")));
+        assert_eq!(Line::read(b"write_signed 1 2 3 32768"), Some(Line::Call(18, [1, 2, 3, 32_768], b"")));
+        assert_eq!(Line::read(b"write 1 2 3 -5"), None);
+        assert_eq!(Line::read(b"prev_signed 1 2 3"), Some(Line::Call(20, [1, 2, 3, 0], b"")));
+        assert_eq!(Line::read(b"nexts 1 2 3 1"), Some(Line::Call(22, [1, 2, 3, 1], b"")));
         assert_eq!(Line::read(b"work 1 2 a \n b"), Some(Line::Call(6, [1, 2, 0, 0], b"a \n b")));
         assert_eq!(Line::read(b"rename 1 2"), Some(Line::Call(8, [1, 2, 0, 0], b"")));
         assert_eq!(Line::read(b"lend tables 4993"), Some(Line::Lend(Buffers::Tables, 4993)));

@@ -37,8 +37,8 @@ impl Pair {
         if door != second {
             return Err(Difference(format!("the door answers {door}, second answers {second}")));
         }
-        if let Line::Call(call, ..) = read {
-            self.tally.count(call, &reply);
+        if let Line::Call(call, numbers, _) = read {
+            self.tally.count(call, numbers, &reply);
             if !is_lawful(call, &reply) {
                 return Err(Difference(format!("both answer {door}, which the documents do not give to this call")));
             }

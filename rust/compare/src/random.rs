@@ -1,5 +1,7 @@
 //! Numbers by seed (xorshift64*).
 
+use std::ops::RangeInclusive;
+
 pub struct Random(u64);
 
 impl Random {
@@ -30,6 +32,11 @@ impl Random {
 
     pub fn between(&mut self, low: u32, high: u32) -> u32 {
         low + self.below(high - low + 1)
+    }
+
+    pub fn among(&mut self, numbers: &RangeInclusive<i64>) -> i64 {
+        let count = numbers.end() - numbers.start() + 1;
+        numbers.start() + (self.any() % count as u64) as i64
     }
 
     /// True once in so many times.

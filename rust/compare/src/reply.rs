@@ -4,7 +4,7 @@ use dorrivand::Refusal;
 
 #[derive(Clone, Copy, PartialEq, Eq, Debug)]
 pub enum Reply {
-    Single(Result<u32, Refusal>),
+    Single(Result<i64, Refusal>),
     /// A run's: so many elements of a list of this length are left unwritten, and what stopped it.
     Rest {
         left: usize,
@@ -42,9 +42,17 @@ impl Reply {
         }
     }
 
-    /// Whether a single call is done with a number above 0.
-    pub fn is_done_with_some(&self) -> bool {
-        matches!(self, Reply::Single(Ok(1..)))
+    /// The number that a single call is done with.
+    pub fn number(&self) -> Option<i64> {
+        match *self {
+            Reply::Single(answer) => answer.ok(),
+            _ => None,
+        }
+    }
+
+    /// Whether it is a run's that had no element to deal with.
+    pub fn is_of_an_empty_list(&self) -> bool {
+        self.elements().is_some_and(|(_, length)| length == 0)
     }
 
     /// Whether a run was stopped after some of its elements.

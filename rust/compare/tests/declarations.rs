@@ -16,7 +16,7 @@ struct Signature {
 type Exports = BTreeMap<String, Signature>;
 
 /// Types of C and of Rust.
-const RESULTS: [(&str, &str); 3] = [("uint64_t", "u64"), ("uint32_t", "u32"), ("size_t", "usize")];
+const RESULTS: [(&str, &str); 4] = [("uint64_t", "u64"), ("int64_t", "i64"), ("uint32_t", "u32"), ("size_t", "usize")];
 
 fn repository() -> PathBuf {
     Path::new(env!("CARGO_MANIFEST_DIR")).join("../..")
@@ -70,6 +70,7 @@ fn typed_in_c(arguments: &str) -> Vec<(String, String)> {
             ("const uint8_t", true, true) => "&[u8]",
             ("uint32_t", true, false) => "&mut u32",
             ("uint32_t", false, false) => "u32",
+            ("int32_t", false, false) => "i32",
             other => panic!("what is {other:?}, {name}?"),
         };
         found.push((name.to_string(), kind.to_string()));
@@ -77,11 +78,15 @@ fn typed_in_c(arguments: &str) -> Vec<(String, String)> {
     found
 }
 
-fn in_rattle() -> Exports {
-    let folder = repository().join("crates/door/src");
+/// The texts of all files of a folder of the repository, one after another.
+fn texts_in(folder: &str) -> String {
+    let folder = repository().join(folder);
     let files = fs::read_dir(&folder).unwrap_or_else(|error| panic!("{}: {error}", folder.display()));
-    let texts = files.map(|file| text_of(&file.expect("a file of the folder").path()));
-    texts.flat_map(|text| in_rust(&text, "extern \"C\" fn ")).collect()
+    files.map(|file| text_of(&file.expect("a file of the folder").path())).collect()
+}
+
+fn in_rattle() -> Exports {
+    in_rust(&texts_in("crates/door/src"), "extern \"C\" fn ")
 }
 
 fn in_the_crate() -> Exports {
@@ -90,8 +95,9 @@ fn in_the_crate() -> Exports {
     in_rust(list, " = ")
 }
 
-fn in_the_header() -> Exports {
-    let text = header("dorrivand.h");
+/// In the header and those that it includes.
+fn in_the_headers() -> Exports {
+    let text = texts_in("include");
     let mut found = Exports::new();
     for (in_c, result) in RESULTS {
         let declared = exports(&text, &format!("\n{in_c} "));
@@ -108,7 +114,7 @@ fn the_three_declarations_agree() {
     // A call is lent a store; the other exports answer alone.
     let is_lent_a_store = |export: &&Signature| export.arguments.iter().any(|(name, _)| name == "store");
     assert_eq!(rattle.values().filter(is_lent_a_store).count(), compare::line::CALLS.len());
-    for (whose, others) in [("the crate's", in_the_crate()), ("the header's", in_the_header())] {
+    for (whose, others) in [("the crate's", in_the_crate()), ("the headers'", in_the_headers())] {
         for name in rattle.keys().chain(others.keys()) {
             assert_eq!(rattle.get(name), others.get(name), "Rattle's {name}, and {whose}");
         }

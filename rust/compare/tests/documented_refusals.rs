@@ -1,8 +1,8 @@
-//! The header and the crate's documentation list for each call the refusals that `compare` sees it give, and no others.
+//! The headers and the crate's documentation list for each call the refusals that `compare` sees it give, and no others, in the
+//! order in which they are judged.
 
 use compare::line::{call, CALLS};
-use compare::tally::REFUSALS;
-use std::collections::BTreeSet;
+use compare::tally::{OF_EMPTY_LISTS, REFUSALS};
 use std::fs;
 use std::path::Path;
 
@@ -26,6 +26,9 @@ const METHODS: [&str; CALLS.len()] = [
     "write",
     "next",
     "prev",
+    "write_signed",
+    "next_signed",
+    "prev_signed",
     "write_run",
     "fill_run",
     "species",
@@ -42,10 +45,6 @@ fn text_of(path: &str) -> String {
     fs::read_to_string(&path).unwrap_or_else(|error| panic!("{}: {error}", path.display()))
 }
 
-fn refusals_of(call: usize) -> BTreeSet<u32> {
-    REFUSALS[call].iter().copied().collect()
-}
-
 /// The call of an export, which has its name but for runs.
 fn call_of(export: &str) -> Option<usize> {
     match export {
@@ -55,29 +54,32 @@ fn call_of(export: &str) -> Option<usize> {
     }
 }
 
-/// The numbers from 1 to 22 in a text. Beside refusals it may name users, entries and pointers, whose numbers are among
-/// the call's refusals by chance; so a number too many may go unseen, and one too few does not.
-fn numbers_in(text: &str) -> BTreeSet<u32> {
-    let words = text.split(|letter: char| !letter.is_ascii_digit());
-    words.filter_map(|word| word.parse().ok()).filter(|number| (1..=22).contains(number)).collect()
+/// The first number of each part of a list, parted by semicolons; what follows it says where the refusal applies.
+fn first_numbers(list: &str) -> Vec<u32> {
+    let first = |part: &str| part.split(|letter: char| !letter.is_ascii_digit()).find_map(|word| word.parse().ok());
+    list.split(';').filter_map(first).collect()
 }
 
 #[test]
-fn in_the_header() {
-    let text = text_of("../../include/dorrivand.h");
+fn in_the_headers() {
+    let text = ["dorrivand.h", "dorrivand_signed.h"].map(|name| text_of(&format!("../../include/{name}"))).concat();
     for part in text.split("Refusals: ").skip(1) {
         let (list, rest) = part.split_once("*/").expect("the comment ends");
         let (_, name) = rest.split_once(" dorrivand_").expect("a declaration follows");
         let (name, _) = name.split_once('(').expect("with arguments");
         let call = call_of(name).unwrap_or_else(|| panic!("{name} is no call"));
-        assert_eq!(numbers_in(list), refusals_of(call), "{name}");
+        // A run's list is followed by that of an empty run.
+        let (list, of_no_element) = list.split_once("of a list of length 0 only").unwrap_or((list, ""));
+        assert_eq!(first_numbers(list), REFUSALS[call], "{name}");
+        let is_run = CALLS[call] != name;
+        assert_eq!(first_numbers(of_no_element), if is_run { &OF_EMPTY_LISTS[..] } else { &[] }, "{name}");
     }
     assert_eq!(text.matches("Refusals: ").count(), CALLS.len());
 }
 
 #[test]
 fn in_the_crate() {
-    let files = ["access", "closing", "inquiries", "opening", "operator", "pointers", "runs"];
+    let files = ["access", "closing", "inquiries", "opening", "operator", "pointers", "runs", "signed"];
     let text: String = files.iter().map(|file| text_of(&format!("../src/calls/{file}.rs"))).collect();
     for part in text.split("# Errors").skip(1) {
         let (list, rest) = part.split_once("```").expect("an example follows");
@@ -86,7 +88,7 @@ fn in_the_crate() {
         let call = METHODS.iter().position(|&method| method == name).unwrap_or_else(|| panic!("{name} is no call"));
         // Here a refusal's number stands in parentheses.
         let numbers = list.split('(').skip(1).filter_map(|rest| rest.split(')').next()?.parse().ok());
-        assert_eq!(numbers.collect::<BTreeSet<u32>>(), refusals_of(call), "{name}");
+        assert_eq!(numbers.collect::<Vec<u32>>(), REFUSALS[call], "{name}");
     }
     assert_eq!(text.matches("# Errors").count(), CALLS.len());
 }

@@ -8,14 +8,16 @@ use crate::store::Store;
 impl Store<'_> {
     /// Writes a number through a pointer, which grows by 1. Through the [end](crate::pointer::END) it is appended. Through
     /// the [begin](crate::pointer::BEGIN) the first element is dropped and the number is not used. Through others it
-    /// replaces the element where the pointer stands. A number too wide for the species loses its top bits.
+    /// replaces the element where the pointer stands. Through any of them, the begin too, a number that is too wide for the
+    /// species is refused.
     ///
     /// # Errors
     ///
     /// [`UnsoundTables`](Refusal::UnsoundTables) (20), [`NoSuchUser`](Refusal::NoSuchUser) (1),
-    /// [`EntryNotOpen`](Refusal::EntryNotOpen) (2), [`NotAPointer`](Refusal::NotAPointer) (4),
-    /// [`NoWorkPermit`](Refusal::NoWorkPermit) (5), [`BelowBegin`](Refusal::BelowBegin) (6),
-    /// [`BeyondEnd`](Refusal::BeyondEnd) (7) but not through the end, [`PositionsUsedUp`](Refusal::PositionsUsedUp) (10),
+    /// [`EntryNotOpen`](Refusal::EntryNotOpen) (2), [`NoSuchSpecies`](Refusal::NoSuchSpecies) (19) for signed elements,
+    /// [`NotAPointer`](Refusal::NotAPointer) (4), [`NoWorkPermit`](Refusal::NoWorkPermit) (5),
+    /// [`BelowBegin`](Refusal::BelowBegin) (6), [`BeyondEnd`](Refusal::BeyondEnd) (7) but not through the end,
+    /// [`TooWide`](Refusal::TooWide) (23), [`PositionsUsedUp`](Refusal::PositionsUsedUp) (10),
     /// [`TooManySegments`](Refusal::TooManySegments) (8), [`NoRoom`](Refusal::NoRoom) (9).
     ///
     /// ```
@@ -23,9 +25,10 @@ impl Store<'_> {
     ///
     /// let mut store = Store::with_segments(1)?;
     /// store.open_new(0, 0, Species::Bits8)?;
-    /// store.write(0, 0, pointer::END, 300)?;
+    /// store.write(0, 0, pointer::END, 255)?;
     /// store.write(0, 0, pointer::END, 20)?;
-    /// assert_eq!(store.next(0, 0, pointer::WORK), Ok(44)); // 8 bits of 300
+    /// assert_eq!(store.write(0, 0, pointer::END, 300), Err(Refusal::TooWide)); // 8 bits are 0 to 255
+    /// assert_eq!(store.next(0, 0, pointer::WORK), Ok(255));
     /// store.write(0, 0, pointer::WORK, 21)?;
     /// assert_eq!(store.write(0, 0, pointer::WORK, 22), Err(Refusal::BeyondEnd));
     /// assert_eq!(store.prev(0, 0, pointer::END), Ok(21));
@@ -44,9 +47,9 @@ impl Store<'_> {
     /// # Errors
     ///
     /// [`UnsoundTables`](Refusal::UnsoundTables) (20), [`NoSuchUser`](Refusal::NoSuchUser) (1),
-    /// [`EntryNotOpen`](Refusal::EntryNotOpen) (2), [`NotAPointer`](Refusal::NotAPointer) (4),
-    /// [`NoWorkPermit`](Refusal::NoWorkPermit) (5) through the begin, [`BelowBegin`](Refusal::BelowBegin) (6),
-    /// [`BeyondEnd`](Refusal::BeyondEnd) (7).
+    /// [`EntryNotOpen`](Refusal::EntryNotOpen) (2), [`NoSuchSpecies`](Refusal::NoSuchSpecies) (19) for signed elements,
+    /// [`NotAPointer`](Refusal::NotAPointer) (4), [`NoWorkPermit`](Refusal::NoWorkPermit) (5) through the begin,
+    /// [`BelowBegin`](Refusal::BelowBegin) (6), [`BeyondEnd`](Refusal::BeyondEnd) (7).
     ///
     /// ```
     /// use dorrivand::{pointer, Refusal, Species, Store};
@@ -70,9 +73,9 @@ impl Store<'_> {
     /// # Errors
     ///
     /// [`UnsoundTables`](Refusal::UnsoundTables) (20), [`NoSuchUser`](Refusal::NoSuchUser) (1),
-    /// [`EntryNotOpen`](Refusal::EntryNotOpen) (2), [`NotAPointer`](Refusal::NotAPointer) (4),
-    /// [`NoWorkPermit`](Refusal::NoWorkPermit) (5) through the end, [`BelowBegin`](Refusal::BelowBegin) (6),
-    /// [`BeyondEnd`](Refusal::BeyondEnd) (7).
+    /// [`EntryNotOpen`](Refusal::EntryNotOpen) (2), [`NoSuchSpecies`](Refusal::NoSuchSpecies) (19) for signed elements,
+    /// [`NotAPointer`](Refusal::NotAPointer) (4), [`NoWorkPermit`](Refusal::NoWorkPermit) (5) through the end,
+    /// [`BelowBegin`](Refusal::BelowBegin) (6), [`BeyondEnd`](Refusal::BeyondEnd) (7).
     ///
     /// ```
     /// use dorrivand::{pointer, Refusal, Species, Store};

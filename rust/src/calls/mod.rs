@@ -7,3 +7,4 @@ mod opening;
 mod operator;
 mod pointers;
 mod runs;
+mod signed;

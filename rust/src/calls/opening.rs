@@ -14,7 +14,7 @@ impl Store<'_> {
     ///
     /// [`UnsoundTables`](Refusal::UnsoundTables) (20), [`NoSuchUser`](Refusal::NoSuchUser) (1),
     /// [`EntryNotOpen`](Refusal::EntryNotOpen) (2) for an entry above 3, [`EntryOpen`](Refusal::EntryOpen) (3),
-    /// [`NoSuchSpecies`](Refusal::NoSuchSpecies) (19).
+    /// [`NoSuchSpecies`](Refusal::NoSuchSpecies) (19) for a number above 6.
     ///
     /// ```
     /// use dorrivand::{Refusal, Species, Store};
@@ -25,7 +25,7 @@ impl Store<'_> {
     /// assert_eq!(store.open_new(0, 3, Species::Bits32), Err(Refusal::EntryOpen));
     /// assert_eq!(store.open_new(0, 4, Species::Bits32), Err(Refusal::EntryNotOpen));
     /// assert_eq!(store.open_new(8, 0, Species::Bits32), Err(Refusal::NoSuchUser));
-    /// assert_eq!(store.open_new(0, 0, 6), Err(Refusal::NoSuchSpecies));
+    /// assert_eq!(store.open_new(0, 0, 7), Err(Refusal::NoSuchSpecies));
     /// # Ok::<(), Refusal>(())
     /// ```
     pub fn open_new(&mut self, user: u32, entry: u32, species: impl SpeciesNumber) -> Result<(), Refusal> {

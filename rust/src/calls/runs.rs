@@ -16,9 +16,10 @@ impl Store<'_> {
     /// # Errors
     ///
     /// A run is stopped by [`UnsoundTables`](Refusal::UnsoundTables) (20), [`NoSuchUser`](Refusal::NoSuchUser) (1),
-    /// [`EntryNotOpen`](Refusal::EntryNotOpen) (2), [`NotAPointer`](Refusal::NotAPointer) (4),
-    /// [`NoWorkPermit`](Refusal::NoWorkPermit) (5), [`BelowBegin`](Refusal::BelowBegin) (6),
-    /// [`BeyondEnd`](Refusal::BeyondEnd) (7) but not through the end, [`PositionsUsedUp`](Refusal::PositionsUsedUp) (10),
+    /// [`EntryNotOpen`](Refusal::EntryNotOpen) (2), [`NoSuchSpecies`](Refusal::NoSuchSpecies) (19) for signed elements,
+    /// [`NotAPointer`](Refusal::NotAPointer) (4), [`NoWorkPermit`](Refusal::NoWorkPermit) (5),
+    /// [`BelowBegin`](Refusal::BelowBegin) (6), [`BeyondEnd`](Refusal::BeyondEnd) (7) but not through the end,
+    /// [`TooWide`](Refusal::TooWide) (23), [`PositionsUsedUp`](Refusal::PositionsUsedUp) (10),
     /// [`TooManySegments`](Refusal::TooManySegments) (8), [`NoRoom`](Refusal::NoRoom) (9). An empty list asks for no element, and
     /// gets none of those after `NoWorkPermit`.
     ///
@@ -61,9 +62,10 @@ impl Store<'_> {
     /// # Errors
     ///
     /// A run is stopped by [`UnsoundTables`](Refusal::UnsoundTables) (20), [`NoSuchUser`](Refusal::NoSuchUser) (1),
-    /// [`EntryNotOpen`](Refusal::EntryNotOpen) (2), [`NotAPointer`](Refusal::NotAPointer) (4),
-    /// [`NoWorkPermit`](Refusal::NoWorkPermit) (5) through the begin, [`BelowBegin`](Refusal::BelowBegin) (6),
-    /// [`BeyondEnd`](Refusal::BeyondEnd) (7). An empty list asks for no element, and gets none of those after `NoWorkPermit`.
+    /// [`EntryNotOpen`](Refusal::EntryNotOpen) (2), [`NoSuchSpecies`](Refusal::NoSuchSpecies) (19) for signed elements,
+    /// [`NotAPointer`](Refusal::NotAPointer) (4), [`NoWorkPermit`](Refusal::NoWorkPermit) (5) through the begin,
+    /// [`BelowBegin`](Refusal::BelowBegin) (6), [`BeyondEnd`](Refusal::BeyondEnd) (7). An empty list asks for no element, and gets
+    /// none of those after `NoWorkPermit`.
     ///
     /// ```
     /// use dorrivand::{pointer, Refusal, Species, Store};

@@ -1,6 +1,10 @@
 //! Single calls, with arguments that mostly make sense.
 
+use super::numbers::word;
 use crate::teller::{bytes_of, Teller, Told};
+
+/// Those that there are, and one that is none.
+const SPECIES: u32 = 8;
 
 impl Teller {
     pub fn any_call(&mut self) -> Told {
@@ -19,7 +23,7 @@ impl Teller {
 
     fn open_new(&mut self) -> Told {
         let (user, entry) = self.closed_entry();
-        let species = self.random.below(6);
+        let species = self.random.below(SPECIES);
         let species = self.or_wild(species);
         self.say(format!("new {user} {entry} {species}"))?;
         Ok(())
@@ -77,15 +81,15 @@ impl Teller {
     }
 
     fn access(&mut self) -> Told {
-        let (user, entry) = match self.random.once_in(4) {
+        let at = match self.random.once_in(4) {
             true => self.open_entry(),
             false => self.working_entry(),
         };
-        let pointer = self.pointer();
+        let ((user, entry), pointer, kind) = (at, self.pointer(), self.kind_at(at));
         let line = match self.random.below(5) {
-            0 => format!("next {user} {entry} {pointer}"),
-            1 => format!("prev {user} {entry} {pointer}"),
-            _ => format!("write {user} {entry} {pointer} {}", self.random.cell()),
+            0 => format!("{} {user} {entry} {pointer}", word("next", kind)),
+            1 => format!("{} {user} {entry} {pointer}", word("prev", kind)),
+            _ => format!("{} {user} {entry} {pointer} {}", word("write", kind), self.number_at(at, kind)),
         };
         self.say(line)?;
         Ok(())

@@ -1,6 +1,7 @@
 //! The stories.
 
 mod calls;
+mod numbers;
 mod runs;
 mod start;
 mod wild;

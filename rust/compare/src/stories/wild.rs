@@ -2,6 +2,7 @@
 
 use crate::line::CALLS;
 use crate::teller::{Teller, Told};
+use filing::rules::element::Kind;
 
 impl Teller {
     pub fn wild(&mut self) -> Told {
@@ -91,8 +92,12 @@ impl Teller {
                 let name: Vec<u8> = (0..length).map(|_| self.wild_byte()).collect();
                 self.say_named(call, (user, entry), &name)?
             }
-            "new" | "pointer" | "delete" | "next" | "prev" | "symbol" | "value" => {
+            "new" | "pointer" | "delete" | "next" | "prev" | "next_signed" | "prev_signed" | "symbol" | "value" => {
                 self.say(format!("{call} {user} {entry} {third}"))?
+            }
+            "write_signed" => {
+                let number = self.number_at((user, entry), Kind::Signed);
+                self.say(format!("write_signed {user} {entry} {third} {number}"))?
             }
             "write" => self.say(format!("write {user} {entry} {third} {fourth}"))?,
             "writes" | "nexts" => {
