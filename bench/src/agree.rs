@@ -1,39 +1,17 @@
 //! Proved code and twin held against each other: the same answer, and the same store, tables, image, list and place afterwards; and runs held
 //! against their single calls. A difference stops the program. Calls that the twin does not have lead the proved code on, and the twin follows.
-use crate::calls::{is_done, refusal, Call, Lent, Performer, ABSENT};
+use crate::calls::{refusal, Call, Lent, Performer, ABSENT};
 use crate::chance::Chance;
+use crate::heard::{Heard, GREATEST_REFUSAL};
 use crate::proved::{self, NOW};
 use crate::starts::{crowded, files_near_limits, full_files, lent, one_file, open_one, scattered_files};
 use crate::tables::{empty, filled, short, CELLS};
+use crate::twin::GREATEST_SPECIES;
 use crate::{damage, singles, twin};
-
-/// How often each answer was given by both: 0 is done, n is refused n.
-pub type Answers = [u32; 23];
-/// The answers that the twin can give to calls that are no runs; to a tidying that moves nothing; what can stop a run; what can after its first element.
-const TWINS: [usize; 13] = [0, 1, 2, 4, 5, 6, 7, 8, 9, 10, 14, 20, 22];
-const UNMOVED: [usize; 3] = [0, 14, 20];
-const STOPS: [usize; 11] = [0, 1, 2, 4, 5, 6, 7, 8, 9, 10, 20];
-const LATE_STOPS: [usize; 5] = [0, 7, 8, 9, 10];
-/// Each of them must have been given so often at least.
-const OFTEN: u32 = 5;
-
-/// What the random calls were answered.
-#[derive(Default)]
-pub struct Heard {
-    /// Calls that are no runs.
-    pub calls: Answers,
-    /// Tidyings, which stand among those too: how many moved segments, and the others' answers.
-    pub moved: u32,
-    pub unmoved: Answers,
-    /// What stopped the runs, 0 for nothing; and of those that came to an element.
-    pub runs: Answers,
-    pub late: Answers,
-    pub elements: u64,
-}
 
 /// The proved code makes the call, and so does the twin where it has it, each over its own cells, which must be the same afterwards. The answer, and
 /// whether the twin gave it too.
-pub fn both(call: &Call, lent: &mut Lent, beside: &mut Lent) -> (u64, bool) {
+pub fn both(call: &Call, lent: &mut Lent, beside: &mut Lent) -> (i64, bool) {
     let (answer, twins) = (proved::now(call, lent), twin::perform(call, beside));
     if twins == ABSENT {
         beside.tables.copy_from_slice(&lent.tables);
@@ -49,7 +27,7 @@ pub fn both(call: &Call, lent: &mut Lent, beside: &mut Lent) -> (u64, bool) {
 }
 
 /// A run answers and leaves what its single calls do, and what the twin does by their means.
-fn run_alike(run: &Call, stood: &Lent, answer: u64, after: &Lent) {
+fn run_alike(run: &Call, stood: &Lent, answer: i64, after: &Lent) {
     let others: [(&str, Performer); 2] =
         [("its single calls", singles::perform), ("the twin by single calls' means", twin::perform_singly)];
     for (who, perform) in others {
@@ -65,20 +43,12 @@ fn counted(call: &Call, lent: &mut Lent, beside: &mut Lent, heard: &mut Heard) -
     let stood = call.single().map(|_| lent.clone());
     let (answer, twins) = both(call, lent, beside);
     let refusal = refusal(call, answer, lent) as usize;
-    assert!(refusal < heard.calls.len(), "an answer that document 01 does not have: {answer}");
+    assert!(refusal <= GREATEST_REFUSAL, "an answer that the documents do not have: {answer}");
     if let Some(stood) = stood {
         run_alike(call, &stood, answer, lent);
-        let many = call.came_to(answer);
-        heard.runs[refusal] += 1;
-        heard.late[refusal] += u32::from(many > 0);
-        heard.elements += many;
-    } else {
-        heard.calls[refusal] += u32::from(twins);
     }
-    if let Call::Tidy = call {
-        let moved = is_done(answer) && answer > 0;
-        heard.moved += u32::from(moved);
-        heard.unmoved[refusal] += u32::from(!moved);
+    if twins {
+        heard.count(call, answer, refusal);
     }
     refusal == 0
 }
@@ -118,7 +88,15 @@ fn runs_on_one_file(chance: &mut Chance, heard: &mut Heard) {
     assert!(twin::sound(&lent.tables, lent.store.len()), "runs begin on sound tables");
     let mut beside = lent.clone();
     for _ in 0..3 {
-        counted(&chance.run(at), &mut lent, &mut beside, heard);
+        counted(&chance.run(&lent.tables, at), &mut lent, &mut beside, heard);
+    }
+}
+
+fn accesses_on_one_file(chance: &mut Chance, heard: &mut Heard) {
+    let (mut lent, at) = one_file(&mut chance.random);
+    let mut beside = lent.clone();
+    for _ in 0..5 {
+        counted(&chance.access(&lent.tables, at), &mut lent, &mut beside, heard);
     }
 }
 
@@ -138,7 +116,7 @@ fn tidy_scattered(chance: &mut Chance, heard: &mut Heard) {
     }
 }
 
-/// Random histories over stores of several sizes, from empty, crowded and scattered tables, tidyings, and runs on files of any kind.
+/// Random histories over stores of several sizes, from empty, crowded and scattered tables, tidyings, and runs and single accesses on files of any kind.
 pub fn histories() -> Heard {
     let mut heard = Heard::default();
     let mut chance = Chance::new(1973);
@@ -157,18 +135,10 @@ pub fn histories() -> Heard {
     }
     for _ in 0..5_000 {
         runs_on_one_file(&mut chance, &mut heard);
+        accesses_on_one_file(&mut chance, &mut heard);
     }
-    often(&TWINS, &heard.calls);
-    often(&UNMOVED, &heard.unmoved);
-    assert!(heard.moved >= OFTEN, "too seldom among the random calls: a tidying that moves segments");
-    often(&STOPS, &heard.runs);
-    often(&LATE_STOPS, &heard.late);
+    heard.check();
     heard
-}
-
-fn often(answers: &[usize], heard: &Answers) {
-    let seldom = answers.iter().find(|&&answer| heard[answer] < OFTEN);
-    assert!(seldom.is_none(), "too seldom among the random calls: answer {seldom:?} of {heard:?}");
 }
 
 /// Both must say the same of sound tables and of tables with one cell changed.
@@ -177,7 +147,7 @@ pub fn soundness(tables: &[u32]) {
     assert!(twin::sound(tables, CELLS) && alike(tables));
     let mut damaged = tables.to_vec();
     for cell in 0..damaged.len() {
-        for value in [0, 1, 2, 63, 64, 1024] {
+        for value in [0, 1, 2, GREATEST_SPECIES, GREATEST_SPECIES + 1, 63, 64, 1024] {
             let kept = std::mem::replace(&mut damaged[cell], value);
             assert!(alike(&damaged), "proved code and twin judge differently: cell {cell} at {value}");
             damaged[cell] = kept;

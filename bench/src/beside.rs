@@ -7,6 +7,7 @@ use crate::peer::{version, Readings};
 use crate::proved;
 use crate::runs::write_run;
 use crate::scenes::{open_between, Scene, HERE};
+use crate::twin::WHOLE_SPECIES;
 
 type List = [u32; DELIVERED as usize];
 
@@ -37,19 +38,19 @@ fn works() -> [Work; 6] {
         Work {
             what: "run of 40 appends, in one stretch: a transaction of 40 inserts",
             readings: 10,
-            ours: write_run(1, all),
+            ours: write_run(WHOLE_SPECIES, 1, all),
             theirs: |table, list| table.append_all(list),
         },
         Work {
             what: "run of 40 appends, across stretches: a transaction of 40 inserts",
             readings: 44,
-            ours: write_run(1, all),
+            ours: write_run(WHOLE_SPECIES, 1, all),
             theirs: |table, list| table.append_all(list),
         },
         Work {
             what: "run of 40 replacements through 2: a transaction of 40 updates",
             readings: 100,
-            ours: write_run(2, all),
+            ours: write_run(WHOLE_SPECIES, 2, all),
             theirs: |table, list| {
                 // SQLite writes nothing where a row has the number already
                 list.iter_mut().for_each(|number| *number ^= 1);
@@ -72,7 +73,7 @@ fn reading(row: u32) -> u32 {
 impl Work {
     fn scene(&self, records: usize) -> Scene {
         let appends: Vec<Call> = (1..=self.readings).map(|row| Call::Write(HERE, 1, reading(row))).collect();
-        open_between(records, 5, 1, 1).after(&appends)
+        open_between(records, WHOLE_SPECIES, 1, 1).after(&appends)
     }
 
     fn table(&self) -> Readings {

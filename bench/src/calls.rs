@@ -33,6 +33,9 @@ pub enum Call {
     Write(At, u32, u32),
     Next(At, u32),
     Prev(At, u32),
+    WriteSigned(At, u32, i32),
+    NextSigned(At, u32),
+    PrevSigned(At, u32),
     Value(At, u32),
     WriteRun(At, u32, Vec<u32>),
     /// Fills so many elements of the lent list.
@@ -40,6 +43,15 @@ pub enum Call {
 }
 
 impl Call {
+    /// A write, next or prev of one element.
+    pub fn is_access(&self) -> bool {
+        matches!(self, Call::Write(..) | Call::Next(..) | Call::Prev(..)) || self.is_signed()
+    }
+
+    pub fn is_signed(&self) -> bool {
+        matches!(self, Call::WriteSigned(..) | Call::NextSigned(..) | Call::PrevSigned(..))
+    }
+
     /// Of a run, the first of the single calls that it stands for.
     pub fn single(&self) -> Option<Call> {
         match *self {
@@ -50,28 +62,28 @@ impl Call {
     }
 
     /// How many elements a run came to, by its answer.
-    pub fn came_to(&self, answer: u64) -> u64 {
+    pub fn came_to(&self, answer: i64) -> u64 {
         match self {
-            Call::WriteRun(_, _, list) => list.len() as u64 - answer,
-            _ => answer,
+            Call::WriteRun(_, _, list) => list.len() as u64 - answer as u64,
+            _ => answer as u64,
         }
     }
 }
 
-/// Makes a call. Done with n is n; a run answers how many elements it left unwritten, or how many it filled.
-pub type Performer = fn(&Call, &mut Lent) -> u64;
+/// Makes a call. Done with n is n, which is below zero for some signed calls; a run answers how many elements it left unwritten, or how many it filled.
+pub type Performer = fn(&Call, &mut Lent) -> i64;
 
 /// The answer refused with n.
-pub const fn refused(number: u32) -> u64 {
-    (1 << 32) + number as u64
+pub const fn refused(number: u32) -> i64 {
+    (1 << 32) + number as i64
 }
 
-pub fn is_done(answer: u64) -> bool {
-    answer >> 32 == 0
+pub fn is_done(answer: i64) -> bool {
+    answer < refused(0)
 }
 
 /// The number of the refusal that a call was answered with or that stopped a run, 0 where there was none.
-pub fn refusal(call: &Call, answer: u64, after: &Lent) -> u32 {
+pub fn refusal(call: &Call, answer: i64, after: &Lent) -> u32 {
     match call {
         _ if !is_done(answer) => answer as u32,
         Call::WriteRun(..) | Call::FillRun(..) => after.place,
@@ -79,5 +91,5 @@ pub fn refusal(call: &Call, answer: u64, after: &Lent) -> u32 {
     }
 }
 
-/// No answer: whoever was asked does not have the call.
-pub const ABSENT: u64 = u64::MAX;
+/// No answer: whoever was asked does not have the call. No call's answer is this number, and no decision's is its lower half.
+pub const ABSENT: i64 = i64::MAX;

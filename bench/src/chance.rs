@@ -1,6 +1,9 @@
 //! Random calls: all users and entries, numbers mostly in range and sometimes wild. They look at the tables, so that many of them are done.
 use crate::calls::{At, Call, DELIVERED};
+use crate::numbers;
 use crate::random::Random;
+use crate::tables::species_at;
+use crate::twin::{GREATEST_SPECIES, SIGNED_SPECIES};
 
 /// Names that the calls use again and again: of one symbol, of twelve, with blanks, empty ones.
 const NAMES: [&[u8]; 10] =
@@ -37,7 +40,7 @@ impl Chance {
             _ => self.others(tables),
         };
         self.again = match call {
-            Call::Write(..) | Call::Next(..) | Call::Prev(..) if self.random.one_in(3) => self.random.below(200),
+            _ if call.is_access() && self.random.one_in(3) => self.random.below(200),
             Call::Pointer(..) => self.random.below(4),
             Call::WriteRun(..) | Call::FillRun(..) if self.random.one_in(3) => self.random.below(5),
             Call::Load => 1,
@@ -60,11 +63,18 @@ impl Chance {
 
     /// An entry that is open, mostly.
     fn open(&mut self, tables: &[u32]) -> At {
-        let open: Vec<u32> = (0..32).filter(|&entry| tables.get(3201 + 56 * entry as usize) == Some(&1)).collect();
+        let all = (0..32).map(|entry| (entry / 4, entry % 4));
+        let open: Vec<At> = all.filter(|&at| species_at(tables, at).is_some()).collect();
         match self.random.one_of(&open) {
-            Some(entry) if !self.random.one_in(20) => (entry / 4, entry % 4),
+            Some(&at) if !self.random.one_in(12) => at,
             _ => self.anywhere(),
         }
+    }
+
+    /// The species of the file there, or any.
+    fn species(&mut self, tables: &[u32], at: At) -> u32 {
+        let any = self.random.below(GREATEST_SPECIES + 1);
+        species_at(tables, at).unwrap_or(any)
     }
 
     /// Mostly the begin, the end or the work pointer.
@@ -103,7 +113,8 @@ impl Chance {
     fn openings(&mut self, tables: &[u32]) -> Call {
         let (mut user, entry) = self.anywhere();
         if self.random.one_in(3) {
-            return Call::New((user, entry), self.random.mostly_below(6));
+            // and one species that there is not
+            return Call::New((user, entry), self.random.mostly_below(GREATEST_SPECIES + 2));
         }
         let mut name = self.name();
         if let Some((owner, filed)) = self.filed(tables) {
@@ -131,11 +142,22 @@ impl Chance {
 
     fn accesses(&mut self, tables: &[u32]) -> Call {
         let at = self.open(tables);
-        match self.random.below(10) {
-            0..=2 => Call::Write(at, 1, self.random.number() as u32),
-            3..=5 => Call::Write(at, self.pointer(), self.random.number() as u32),
-            6..=7 => Call::Next(at, self.pointer()),
-            _ => Call::Prev(at, self.pointer()),
+        self.access(tables, at)
+    }
+
+    /// A write, next or prev at an entry, mostly of the kind that the file takes.
+    pub fn access(&mut self, tables: &[u32], at: At) -> Call {
+        let species = self.species(tables, at);
+        let signed = (species == SIGNED_SPECIES) != self.random.one_in(20);
+        let kind = self.random.below(10);
+        let pointer = if kind < 3 { 1 } else { self.pointer() };
+        match kind {
+            0..=5 if signed => Call::WriteSigned(at, pointer, numbers::signed(&mut self.random)),
+            0..=5 => Call::Write(at, pointer, numbers::plain(&mut self.random, species)),
+            6..=7 if signed => Call::NextSigned(at, pointer),
+            6..=7 => Call::Next(at, pointer),
+            _ if signed => Call::PrevSigned(at, pointer),
+            _ => Call::Prev(at, pointer),
         }
     }
 
@@ -153,17 +175,18 @@ impl Chance {
 
     fn runs(&mut self, tables: &[u32]) -> Call {
         let at = self.open(tables);
-        self.run(at)
+        self.run(tables, at)
     }
 
     /// A run at an entry.
-    pub fn run(&mut self, at: At) -> Call {
+    pub fn run(&mut self, tables: &[u32], at: At) -> Call {
         let pointer = if self.random.one_in(3) { 1 } else { self.pointer() };
         let length = self.length();
         if self.random.one_in(3) {
             return Call::FillRun(at, pointer, length as usize);
         }
-        Call::WriteRun(at, pointer, (0..length).map(|_| self.random.number() as u32).collect())
+        let species = self.species(tables, at);
+        Call::WriteRun(at, pointer, numbers::list(&mut self.random, species, length))
     }
 
     fn others(&mut self, tables: &[u32]) -> Call {

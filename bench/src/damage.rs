@@ -2,8 +2,7 @@
 use crate::calls::Lent;
 use crate::random::Random;
 use crate::twin;
-
-const OPENINGS: usize = 3201;
+use crate::twin::layout::OPENINGS;
 
 /// Tables that are mostly unsound.
 pub fn tables(random: &mut Random, lent: &mut Lent) {

@@ -30,7 +30,7 @@ pub fn write(book: &mut Book) {
 /// Appends to a file of one element, and fills from a long one.
 fn runs(book: &mut Book, records: usize) {
     for elements in [1, 1_000, 10_000, LONGEST_RUN] {
-        let figures = measure::run(&open_file(records, 0, 1, 0), &write_run(1, elements), elements, false);
+        let figures = measure::run(&open_file(records, 0, 1, 0), &write_run(0, 1, elements), elements, false);
         book.row(&format!("append | {elements} | {records}"), figures);
     }
     for elements in [1, 1_000, 10_000, LONGEST_RUN] {

@@ -3,7 +3,7 @@ use crate::book::Book;
 use crate::calls::Call::{self, *};
 use crate::measure;
 use crate::scenes::{full, open_file, own, records, Scene, HERE};
-use crate::twin::WHOLE_SPECIES;
+use crate::twin::{AS_WIDE_AS_SIGNED, SIGNED_SPECIES, WHOLE_SPECIES};
 
 /// Any number of records; a call that needs one; a call that needs a free place.
 const ANY: [usize; 3] = [0, 20, 64];
@@ -25,7 +25,8 @@ fn on_full(book: &mut Book, what: &str, scene: Scene, call: Call, refusal: Optio
 
 /// A new file of 100 elements, whose work pointer stands in the middle.
 fn middle_of(species: u32, number: usize) -> Scene {
-    open_file(number, species, 100, 0).after(&vec![Next(HERE, 2); 50])
+    let next = if species == SIGNED_SPECIES { NextSigned(HERE, 2) } else { Next(HERE, 2) };
+    open_file(number, species, 100, 0).after(&vec![next; 50])
 }
 
 fn middle(number: usize) -> Scene {
@@ -51,11 +52,29 @@ fn access(book: &mut Book) {
     rows(book, "next through 0", ANY, middle, Next(HERE, 0));
     rows(book, "prev through 2", ANY, middle, Prev(HERE, 2));
     rows(book, "prev through 1", ANY, middle, Prev(HERE, 1));
-    let cells = |number| middle_of(WHOLE_SPECIES, number);
-    rows(book, "append, species 5", ANY, cells, Write(HERE, 1, 1));
-    rows(book, "write through 2, species 5", ANY, cells, Write(HERE, 2, 1));
-    rows(book, "next through 2, species 5", ANY, cells, Next(HERE, 2));
-    rows(book, "prev through 2, species 5", ANY, cells, Prev(HERE, 2));
+    for species in [WHOLE_SPECIES, AS_WIDE_AS_SIGNED, SIGNED_SPECIES] {
+        for (what, call) in accesses(species) {
+            rows(book, &format!("{what}, species {species}"), ANY, |number| middle_of(species, number), call);
+        }
+    }
+}
+
+/// By the kind of call that a file of the species takes.
+fn accesses(species: u32) -> [(&'static str, Call); 4] {
+    if species == SIGNED_SPECIES {
+        return [
+            ("append", WriteSigned(HERE, 1, -1)),
+            ("write through 2", WriteSigned(HERE, 2, -1)),
+            ("next through 2", NextSigned(HERE, 2)),
+            ("prev through 2", PrevSigned(HERE, 2)),
+        ];
+    }
+    [
+        ("append", Write(HERE, 1, 1)),
+        ("write through 2", Write(HERE, 2, 1)),
+        ("next through 2", Next(HERE, 2)),
+        ("prev through 2", Prev(HERE, 2)),
+    ]
 }
 
 /// An append after 64 elements of species 5, which fill a segment; and a write through an own pointer at the begin of a record's file.

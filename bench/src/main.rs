@@ -8,8 +8,10 @@ mod chance;
 mod damage;
 mod decisions;
 mod growth;
+mod heard;
 mod kinds;
 mod measure;
+mod numbers;
 #[cfg(sqlite)]
 mod peer;
 mod proved;
@@ -57,16 +59,8 @@ fn main() {
 }
 
 fn agree_first() {
-    let heard = agree::histories();
-    let [calls, runs] = [heard.calls, heard.runs].map(|answers| answers.iter().sum::<u32>());
-    println!("{calls} random calls: proved code and twin answer alike and leave the same cells.");
-    println!("done and refused 1 to 22, how often: {:?}", heard.calls);
-    println!(
-        "tidyings among them: {} move segments; of the others done and refused 1 to 22: {:?}",
-        heard.moved, heard.unmoved
-    );
-    println!("{runs} random runs, {} elements: alike too, and as their single calls.", heard.elements);
-    println!("done and stopped by 1 to 22, how often: {:?}, after an element: {:?}", heard.runs, heard.late);
+    agree::histories().print();
     tables::compact().iter().chain(&tables::scattered()).for_each(|(_, tables)| agree::soundness(tables));
-    println!("Soundness of the tables measured, with each one cell changed: alike.");
+    agree::soundness(&tables::each_species());
+    println!("Soundness of the tables measured and of files of each species, with each one cell changed: alike.");
 }

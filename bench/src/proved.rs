@@ -5,7 +5,7 @@ use crate::calls::{Call, Lent, ABSENT};
 /// Takes the place of an export that the earlier build lacks: whatever it is asked, it has no answer. By the C convention a function may be handed arguments
 /// that it does not look at.
 #[no_mangle]
-pub extern "C" fn bench_absent() -> u64 {
+pub extern "C" fn bench_absent() -> i64 {
     ABSENT
 }
 
@@ -60,6 +60,9 @@ exports! {
     write(Write, usize, Write, usize, u32, u32, u32, u32) -> u64;
     next(Read<u32>, usize, Write, usize, u32, u32, u32) -> u64;
     prev(Read<u32>, usize, Write, usize, u32, u32, u32) -> u64;
+    write_signed(Write, usize, Write, usize, u32, u32, u32, i32) -> u64;
+    next_signed(Read<u32>, usize, Write, usize, u32, u32, u32) -> i64;
+    prev_signed(Read<u32>, usize, Write, usize, u32, u32, u32) -> i64;
     value(Read<u32>, usize, Read<u32>, usize, u32, u32, u32) -> u64;
     write_run(Write, usize, Write, usize, u32, u32, u32, Read<u32>, usize, Write) -> u64;
     fill_run(Read<u32>, usize, Write, usize, u32, u32, u32, Write, usize, Write) -> u64;
@@ -89,17 +92,17 @@ impl Build {
         unsafe { (self.measure_lowest_free)(tables.as_ptr(), tables.len(), cells) }
     }
 
-    fn perform(&self, call: &Call, lent: &mut Lent) -> u64 {
+    fn perform(&self, call: &Call, lent: &mut Lent) -> i64 {
         let Lent { store, tables, image, list, place } = lent;
         macro_rules! door {
             (const $name:ident $(, $more:expr)*) => {
-                unsafe { (self.$name)(store.as_ptr(), store.len(), tables.as_ptr(), tables.len() $(, $more)*) }
+                (unsafe { (self.$name)(store.as_ptr(), store.len(), tables.as_ptr(), tables.len() $(, $more)*) }) as i64
             };
             (mut $name:ident $(, $more:expr)*) => {
-                unsafe { (self.$name)(store.as_ptr(), store.len(), tables.as_mut_ptr(), tables.len() $(, $more)*) }
+                (unsafe { (self.$name)(store.as_ptr(), store.len(), tables.as_mut_ptr(), tables.len() $(, $more)*) }) as i64
             };
             (both $name:ident $(, $more:expr)*) => {
-                unsafe { (self.$name)(store.as_mut_ptr(), store.len(), tables.as_mut_ptr(), tables.len() $(, $more)*) }
+                (unsafe { (self.$name)(store.as_mut_ptr(), store.len(), tables.as_mut_ptr(), tables.len() $(, $more)*) }) as i64
             };
         }
         match *call {
@@ -118,6 +121,9 @@ impl Build {
             Call::Write((user, entry), pointer, number) => door!(both write, user, entry, pointer, number),
             Call::Next((user, entry), pointer) => door!(mut next, user, entry, pointer),
             Call::Prev((user, entry), pointer) => door!(mut prev, user, entry, pointer),
+            Call::WriteSigned((user, entry), pointer, number) => door!(both write_signed, user, entry, pointer, number),
+            Call::NextSigned((user, entry), pointer) => door!(mut next_signed, user, entry, pointer),
+            Call::PrevSigned((user, entry), pointer) => door!(mut prev_signed, user, entry, pointer),
             Call::Value((user, entry), pointer) => door!(const value, user, entry, pointer),
             Call::WriteRun((user, entry), pointer, ref list) => {
                 door!(both write_run, user, entry, pointer, list.as_ptr(), list.len(), place)
@@ -131,12 +137,12 @@ impl Build {
 }
 
 /// This build makes a call.
-pub fn now(call: &Call, lent: &mut Lent) -> u64 {
+pub fn now(call: &Call, lent: &mut Lent) -> i64 {
     NOW.perform(call, lent)
 }
 
 /// The earlier build makes a call.
-pub fn before(call: &Call, lent: &mut Lent) -> u64 {
+pub fn before(call: &Call, lent: &mut Lent) -> i64 {
     BEFORE.perform(call, lent)
 }
 

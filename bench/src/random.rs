@@ -1,6 +1,6 @@
 //! Random numbers from a seed.
 
-const WILD: [u32; 8] = [6, 8, 12, 63, 64, 1 << 24, (1 << 24) - 1, u32::MAX];
+const WILD: [u32; 9] = [6, 7, 8, 12, 63, 64, 1 << 24, (1 << 24) - 1, u32::MAX];
 
 pub struct Random(pub u64);
 

@@ -5,7 +5,7 @@ use crate::calls::DELIVERED;
 use crate::measure;
 use crate::scenes::{open_between, Scene, HERE};
 use crate::tables::ELEMENTS;
-use crate::twin::WHOLE_SPECIES;
+use crate::twin::{greatest, WHOLE_SPECIES};
 
 /// Elements of the first stretch before the run, where it stays in that stretch, and of the file after it.
 const BEFORE: u32 = 10;
@@ -13,20 +13,21 @@ const AFTER: u32 = 10;
 /// As many as are left of a stretch of species 5 then.
 const TO_THE_END: u32 = ELEMENTS[WHOLE_SPECIES as usize] - BEFORE;
 
-/// A run of so many elements.
-type Run = fn(u32) -> Call;
+/// A run on a file of a species, of so many elements.
+type Run = fn(u32, u32) -> Call;
 
 const RUNS: [(&str, Run); 5] = [
-    ("append", |elements| write_run(1, elements as usize)),
-    ("replace through 2", |elements| write_run(2, elements as usize)),
-    ("write through 0", |elements| write_run(0, elements as usize)),
-    ("fill through 2", |elements| FillRun(HERE, 2, elements as usize)),
-    ("fill through 0", |elements| FillRun(HERE, 0, elements as usize)),
+    ("append", |species, elements| write_run(species, 1, elements as usize)),
+    ("replace through 2", |species, elements| write_run(species, 2, elements as usize)),
+    ("write through 0", |species, elements| write_run(species, 0, elements as usize)),
+    ("fill through 2", |_, elements| FillRun(HERE, 2, elements as usize)),
+    ("fill through 0", |_, elements| FillRun(HERE, 0, elements as usize)),
 ];
 
-/// Writes so many numbers through a pointer.
-pub fn write_run(pointer: u32, elements: usize) -> Call {
-    WriteRun(HERE, pointer, (0..elements as u32).map(|place| place.wrapping_mul(0x9E37_79B9)).collect())
+/// Writes so many numbers of a species through a pointer.
+pub fn write_run(species: u32, pointer: u32, elements: usize) -> Call {
+    let number = |place: u32| place.wrapping_mul(0x9E37_79B9) & greatest(species);
+    WriteRun(HERE, pointer, (0..elements as u32).map(number).collect())
 }
 
 /// A file whose first stretch has so many elements or positions before the run's first.
@@ -60,11 +61,11 @@ pub fn write(book: &mut Book) {
     book.run_heading("run | species | elements | records");
     for (what, run) in RUNS {
         for (species, elements) in [(5, DELIVERED), (5, TO_THE_END), (0, DELIVERED), (0, 1_000)] {
-            rows(book, &format!("{what}, in one stretch"), &run(elements), species, BEFORE, elements);
+            rows(book, &format!("{what}, in one stretch"), &run(species, elements), species, BEFORE, elements);
         }
         for (species, elements) in [(5, DELIVERED), (5, 1_000), (0, DELIVERED), (0, 1_000)] {
             let before = halfway(species, elements);
-            rows(book, &format!("{what}, across stretches"), &run(elements), species, before, elements);
+            rows(book, &format!("{what}, across stretches"), &run(species, elements), species, before, elements);
         }
     }
 }

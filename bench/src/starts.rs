@@ -4,7 +4,7 @@ use crate::chance::LONGEST_RUN;
 use crate::random::Random;
 use crate::tables::{empty, file, open_new, reading, relist, short, Content, CELLS, ELEMENTS, SEGMENTS};
 use crate::twin::layout::{opening, opening_mut, record, PLACES};
-use crate::twin::{GREATEST_END, IMAGE, SEGMENT_CELLS};
+use crate::twin::{GREATEST_END, IMAGE, SEGMENT_CELLS, SIGNED_SPECIES};
 
 /// So few that a file or two hold nearly all of them.
 const FEW_SEGMENTS: u32 = 40;
@@ -34,13 +34,15 @@ pub fn full_files(place: u32) -> Content {
     Content { species: 5, begin: 1, end: 1 + 32 * 64, first: 32 * place }
 }
 
-/// One element before 32 segments are full; one position before the positions are used up; one element; empty beyond the begin.
+/// One element before 32 segments are full; one position before the positions are used up; one element; empty beyond the begin. Every second
+/// user's files of the first two kinds are signed.
 pub fn files_near_limits(place: u32) -> Content {
     let first = 32 * place;
+    let signed_or = |plain| if place / 4 % 2 == 1 { SIGNED_SPECIES } else { plain };
     match place % 4 {
-        0 => Content { species: 4, begin: 128, end: 128 * 32, first },
-        1 => Content { species: 3, begin: 16_777_000, end: 16_777_214, first },
-        2 => Content { species: place % 6, begin: 1, end: 2, first },
+        0 => Content { species: signed_or(4), begin: 128, end: 128 * 32, first },
+        1 => Content { species: signed_or(3), begin: 16_777_000, end: 16_777_214, first },
+        2 => Content { species: place % ELEMENTS.len() as u32, begin: 1, end: 2, first },
         _ => Content { species: 1, begin: 2049, end: 2049, first },
     }
 }
@@ -95,7 +97,7 @@ pub fn one_file(random: &mut Random) -> (Lent, At) {
 
 /// A file of no, a few or nearly all 32 segments, often near the end of its last one, sometimes near the end of all positions.
 fn any_content(random: &mut Random) -> Content {
-    let species = random.below(6);
+    let species = random.below(ELEMENTS.len() as u32);
     let per_segment = ELEMENTS[species as usize];
     let begin = match random.below(4) {
         0 => 1,

@@ -1,11 +1,13 @@
 //! Tables to measure on and to begin histories from.
+use crate::calls::At;
 use crate::random::Random;
-use crate::twin::TABLES;
+use crate::twin::layout::{opening, OPENINGS};
+use crate::twin::{GREATEST_SPECIES, TABLES};
 
 pub const CELLS: usize = 65_536;
 pub const SEGMENTS: u32 = 1024;
-/// E of species 0 to 5.
-pub const ELEMENTS: [u32; 6] = [2048, 1024, 512, 256, 128, 64];
+/// E of each species.
+pub const ELEMENTS: [u32; 1 + GREATEST_SPECIES as usize] = [2048, 1024, 512, 256, 128, 64, 128];
 
 /// A file: its species, its begin and end, and the first of its segments, which follow each other.
 #[derive(Clone, Copy)]
@@ -94,6 +96,13 @@ pub fn reading(tables: &mut [u32], entry: usize, place: usize) {
     cells[24..].copy_from_slice(&filed[18..]);
 }
 
+/// The species of the file that an entry has open. The tables may be damaged.
+pub fn species_at(tables: &[u32], (user, entry): At) -> Option<u32> {
+    let row = tables.get(OPENINGS + opening::CELLS * (4 * user as usize + entry as usize)..)?;
+    let is_open = row.get(opening::OPEN) == Some(&1);
+    row.get(opening::SPECIES).copied().filter(|&species| is_open && species <= GREATEST_SPECIES)
+}
+
 /// So many records of species 5 that hold so many segments each, the one at place p of user p mod 8, from the first segment on.
 pub fn filled(records: usize, name: fn(usize) -> Name, held: u32) -> Vec<u32> {
     let mut tables = empty(SEGMENTS);
@@ -160,4 +169,16 @@ pub fn scattered() -> Vec<(&'static str, Vec<u32>)> {
             dealt(64, 15, |place, stretch| (64 * stretch + 63 - place) as u32),
         ),
     ]
+}
+
+/// A file of each species, from the last position of a stretch to the first of the one after the next, which its owner reads.
+pub fn each_species() -> Vec<u32> {
+    let mut tables = empty(SEGMENTS);
+    for (place, per_segment) in ELEMENTS.into_iter().enumerate() {
+        let number = place as u32;
+        let content = Content { species: number, begin: per_segment, end: 2 * per_segment + 2, first: 3 * number };
+        file(&mut tables, place, short(place), number, content);
+        reading(&mut tables, 4 * place, place);
+    }
+    tables
 }

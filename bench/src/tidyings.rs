@@ -18,7 +18,7 @@ const LAST: [Size; 1] = [(64, 8)];
 
 /// How many segments move is what the call itself says.
 fn row(book: &mut Book, listed: &str, (records, held): Size, scene: &Scene) {
-    let moved = proved::now(&Tidy, &mut scene.now()) / SEGMENT_CELLS as u64;
+    let moved = proved::now(&Tidy, &mut scene.now()) / SEGMENT_CELLS as i64;
     let columns = format!("{listed} | {records} | {} | {moved}", records * held);
     book.row(&columns, measure::call(scene, &Tidy, None));
 }

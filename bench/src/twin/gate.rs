@@ -1,5 +1,6 @@
-//! The refusals before a call's own: "Order: 20, 1, 2", "for a pointer call 4, 5"; for a tidying 20, 14.
+//! The refusals before a call's own: "Order: 20, 1, 2", "for a pointer call 4, 5", and 19 "after 2 and before 4"; for a tidying 20, 14.
 use super::layout::{self, opening};
+use super::numbers::Number;
 use super::openings::value;
 use super::soundness::sound;
 use super::Refusal;
@@ -39,8 +40,9 @@ pub fn open_entry(store: &[u32], tables: &[u32], user: u32, entry: u32) -> Resul
     Ok(at)
 }
 
-/// An open entry that has the pointer, and the work permit where that is needed. A run of no element is judged by this too.
-pub fn pointer(
+/// An open entry whose file takes and gives such numbers and has the pointer, and the work permit where that is needed. A run of no element is judged by
+/// this too.
+pub fn pointer<N: Number>(
     store: &[u32],
     tables: &[u32],
     user: u32,
@@ -50,6 +52,9 @@ pub fn pointer(
 ) -> Result<usize, Refusal> {
     let at = open_entry(store, tables, user, entry)?;
     let cells = layout::opening(tables, at);
+    if !N::is_kind_of(cells[opening::SPECIES]) {
+        return Err(Refusal::Species);
+    }
     value(cells, pointer)?;
     if needs_permit && cells[opening::PERMIT] == 0 {
         return Err(Refusal::Permit);

@@ -3,7 +3,7 @@
 pub const TABLES: usize = 4993;
 pub const PLACES: usize = 64;
 const RECORDS: usize = 1;
-const OPENINGS: usize = 3201;
+pub const OPENINGS: usize = 3201;
 
 /// The cells of a record.
 pub mod record {

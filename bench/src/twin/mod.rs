@@ -6,6 +6,7 @@ mod gate;
 mod image;
 pub mod layout;
 mod means;
+mod numbers;
 mod openings;
 mod packing;
 mod perform;
@@ -19,7 +20,9 @@ pub use free::{free_count, lowest_free, lowest_free_by_search};
 pub use image::IMAGE;
 pub use layout::TABLES;
 pub use perform::{perform, perform_singly};
-pub use placing::{GREATEST_END, SEGMENT_CELLS, WHOLE_SPECIES};
+pub use placing::{
+    greatest, AS_WIDE_AS_SIGNED, GREATEST_END, GREATEST_SPECIES, SEGMENT_CELLS, SIGNED_SPECIES, WHOLE_SPECIES,
+};
 pub use soundness::sound;
 
 /// "The numbers a refusal carries"
@@ -35,8 +38,10 @@ pub enum Refusal {
     Room = 9,
     Positions = 10,
     NotNow = 14,
+    Species = 19,
     Tables = 20,
     Image = 22,
+    TooWide = 23,
 }
 
 /// "An answer is either done, with its number where there is one, or refused, with one of these inside it"

@@ -1,4 +1,4 @@
-//! Elements of one segment put and taken a whole cell at a time.
+//! Elements of one segment put and taken a whole cell at a time: by runs, so of species 0 to 5.
 use super::placing::Segment;
 
 /// Elements from an offset on, which are all of the segment.
@@ -39,9 +39,9 @@ fn in_first_cell(width: u32, offset: usize, many: usize) -> usize {
     }
 }
 
-/// Elements beside each other, the last one lowest.
+/// Elements, none wider than told, beside each other, the last one lowest.
 fn packed<const WIDTH: u32>(numbers: &[u32]) -> u32 {
-    numbers.iter().fold(0, |bits, &number| bits << WIDTH | number & ((1 << WIDTH) - 1))
+    numbers.iter().fold(0, |bits, &number| bits << WIDTH | number)
 }
 
 /// Some elements of a cell, at least one and not all, with so many before them.

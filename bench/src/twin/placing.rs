@@ -1,20 +1,35 @@
 //! Where an element lies: species, positions, stretches and cells.
 
 pub const GREATEST_END: u32 = 16_777_215;
-pub const GREATEST_SPECIES: u32 = 5;
+pub const GREATEST_SPECIES: u32 = 6;
 /// "species 5, where an element is a cell"
 pub const WHOLE_SPECIES: u32 = 5;
+/// "signed temperatures", and the plain species that is as wide.
+pub const SIGNED_SPECIES: u32 = 6;
+pub const AS_WIDE_AS_SIGNED: u32 = 4;
 pub const MOST_HELD: u32 = 32;
 pub const SEGMENT_CELLS: usize = 64;
 
-/// "Species 0 to 5 have elements of 1, 2, 4, 8, 16 and 32 bits"
+/// "Species 0 to 5 have elements of 1, 2, 4, 8, 16 and 32 bits": the width is 2 to this power.
+fn width_log(species: u32) -> u32 {
+    if species == SIGNED_SPECIES {
+        return AS_WIDE_AS_SIGNED;
+    }
+    species
+}
+
 fn width(species: u32) -> u32 {
-    1 << species
+    1 << width_log(species)
+}
+
+/// The greatest plain number of the width, which is all its bits.
+pub fn greatest(species: u32) -> u32 {
+    u32::MAX >> (32 - width(species))
 }
 
 /// "so E = 2048, 1024, 512, 256, 128 and 64 elements in a segment": E is 2 to this power.
 fn elements_log(species: u32) -> u32 {
-    11 - species
+    11 - width_log(species)
 }
 
 /// How many elements a position's stretch has before it, o, and how many from it on.
@@ -71,7 +86,7 @@ fn seat(species: u32, offset: u32) -> Seat {
         // no offset of a segment is past its cells, and so the compiler knows it
         cell: bits as usize / 32 % SEGMENT_CELLS,
         above: 32 - width(species) - bits % 32,
-        mask: u32::MAX >> (32 - width(species)),
+        mask: greatest(species),
     }
 }
 
@@ -83,13 +98,13 @@ pub fn element(cells: &Segment, species: u32, offset: u32) -> u32 {
     cells[seat.cell] >> seat.above & seat.mask
 }
 
-/// "A written number too wide for the species loses its top bits"
-pub fn put_element(cells: &mut Segment, species: u32, offset: u32, number: u32) {
+/// An element, which is no wider than the species.
+pub fn put_element(cells: &mut Segment, species: u32, offset: u32, element: u32) {
     if species == WHOLE_SPECIES {
-        cells[whole_seat(offset)] = number;
+        cells[whole_seat(offset)] = element;
         return;
     }
     let seat = seat(species, offset);
     let cell = &mut cells[seat.cell];
-    *cell = *cell & !(seat.mask << seat.above) | (number & seat.mask) << seat.above;
+    *cell = *cell & !(seat.mask << seat.above) | element << seat.above;
 }

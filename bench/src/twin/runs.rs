@@ -1,6 +1,7 @@
 //! Document 02, P1: runs of elements. The tables are judged once, and then a stretch at a time is written or filled.
 use super::layout::{self, opening, Opening};
 use super::means::Means;
+use super::numbers::fitting;
 use super::openings::drop_first;
 use super::placing::{offset, rest_of_stretch, segment, segment_mut, stretch, GREATEST_END};
 use super::write::{position, segment_for};
@@ -27,19 +28,21 @@ pub fn write_run<M: Means>(
     pointer: u32,
     list: &[u32],
 ) -> Ran {
-    match gate::pointer(store, tables, user, entry, pointer, true) {
+    match gate::pointer::<u32>(store, tables, user, entry, pointer, true) {
         Err(refusal) => refusal.into(),
-        Ok(at) if pointer == 0 => drop_run(layout::opening_mut(tables, at), list.len()),
+        Ok(at) if pointer == 0 => drop_run(layout::opening_mut(tables, at), list),
         Ok(at) => write_stretches::<M>(store, tables, at, pointer, list),
     }
 }
 
 /// Through pointer 0: the first elements are dropped, all at once.
-fn drop_run(cells: &mut Opening, length: usize) -> Ran {
+fn drop_run(cells: &mut Opening, list: &[u32]) -> Ran {
     let elements = cells[opening::END] - cells[opening::BEGIN];
-    let many = length.min(elements as usize);
+    let most = list.len().min(elements as usize);
+    let many = fitting(cells[opening::SPECIES], &list[..most]);
     drop_first(cells, many as u32);
-    Ran { many, stop: (many < length).then_some(Refusal::Beyond) }
+    let stop = if many < most { Refusal::TooWide } else { Refusal::Beyond };
+    Ran { many, stop: (many < list.len()).then_some(stop) }
 }
 
 fn write_stretches<M: Means>(store: &mut [u32], tables: &mut [u32], at: usize, pointer: u32, list: &[u32]) -> Ran {
@@ -54,7 +57,7 @@ fn write_stretches<M: Means>(store: &mut [u32], tables: &mut [u32], at: usize, p
     Ran { many, stop: None }
 }
 
-/// As many elements as the pointer's stretch takes; how many these are.
+/// As many elements as the pointer's stretch takes, or as come before one that is too wide, and at least one; how many these are.
 fn write_stretch<M: Means>(
     means: &mut M,
     store: &mut [u32],
@@ -63,12 +66,13 @@ fn write_stretch<M: Means>(
     pointer: u32,
     list: &[u32],
 ) -> Result<usize, Refusal> {
-    let value = position(layout::opening(tables, at), pointer)?;
+    let value = position(layout::opening(tables, at), pointer, list[0])?;
     let number = segment_for(store, tables, at, value, |tables| means.lowest_free(tables))?;
     let cells = layout::opening_mut(tables, at);
     let species = cells[opening::SPECIES];
     let limit = if pointer == 1 { GREATEST_END } else { cells[opening::END] };
-    let many = list.len().min(rest_of_stretch(species, value).min(limit - value) as usize);
+    let most = list.len().min(rest_of_stretch(species, value).min(limit - value) as usize);
+    let many = fitting(species, &list[..most]);
     M::put(segment_mut(store, number), species, offset(species, value), &list[..many]);
     cells[opening::POINTERS + pointer as usize] = value + many as u32;
     Ok(many)
@@ -83,7 +87,7 @@ pub fn fill_run<M: Means>(
     pointer: u32,
     list: &mut [u32],
 ) -> Ran {
-    let at = match gate::pointer(store, tables, user, entry, pointer, pointer == 0) {
+    let at = match gate::pointer::<u32>(store, tables, user, entry, pointer, pointer == 0) {
         Err(refusal) => return refusal.into(),
         Ok(at) => at,
     };

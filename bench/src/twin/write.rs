@@ -1,15 +1,23 @@
 //! Write.
 use super::free::lowest_free;
 use super::layout::{self, opening, record, Opening};
+use super::numbers::Number;
 use super::openings::{drop_first, holds};
 use super::placing::{held, offset, put_element, segment_mut, stretch, GREATEST_END, MOST_HELD, SEGMENT_CELLS};
 use super::{gate, Answer, Refusal};
 
 /// "Write: v < b is 6; p not 1 and v >= e is 7. Through 1: append, e grows by 1. Through 0: the first element is dropped, no
 /// segment is taken and no store cell changes. Else position v is replaced. v grows by 1."
-pub fn write(store: &mut [u32], tables: &mut [u32], user: u32, entry: u32, pointer: u32, number: u32) -> Answer {
-    let at = gate::pointer(store, tables, user, entry, pointer, true)?;
-    let value = position(layout::opening(tables, at), pointer)?;
+pub fn write<N: Number>(
+    store: &mut [u32],
+    tables: &mut [u32],
+    user: u32,
+    entry: u32,
+    pointer: u32,
+    number: N,
+) -> Answer {
+    let at = gate::pointer::<N>(store, tables, user, entry, pointer, true)?;
+    let value = position(layout::opening(tables, at), pointer, number)?;
     if pointer == 0 {
         drop_first(layout::opening_mut(tables, at), 1);
         return Ok(0);
@@ -17,13 +25,13 @@ pub fn write(store: &mut [u32], tables: &mut [u32], user: u32, entry: u32, point
     let segment = segment_for(store, tables, at, value, lowest_free)?;
     let cells = layout::opening_mut(tables, at);
     let species = cells[opening::SPECIES];
-    put_element(segment_mut(store, segment), species, offset(species, value), number);
+    put_element(segment_mut(store, segment), species, offset(species, value), number.bits());
     cells[opening::POINTERS + pointer as usize] = value + 1;
     Ok(0)
 }
 
-/// The position to be written through a pointer that the opening has, unless it is refused: "6, 7, 10, 8".
-pub fn position(cells: &Opening, pointer: u32) -> Answer {
+/// The position to be written through a pointer that the opening has, unless it is refused: "6, 7, 10, 8", and 23 "after 7 and before 10".
+pub fn position<N: Number>(cells: &Opening, pointer: u32, number: N) -> Answer {
     let (species, begin, end) = (cells[opening::SPECIES], cells[opening::BEGIN], cells[opening::END]);
     let value = cells[opening::POINTERS + pointer as usize];
     if value < begin {
@@ -31,6 +39,9 @@ pub fn position(cells: &Opening, pointer: u32) -> Answer {
     }
     if pointer != 1 && value >= end {
         return Err(Refusal::Beyond);
+    }
+    if !number.fits(species) {
+        return Err(Refusal::TooWide);
     }
     if pointer == 1 && end == GREATEST_END {
         return Err(Refusal::Positions);
