@@ -84,7 +84,7 @@ signedCall (SignedWrite.Is u e p z) = some (on u e (uses (call.writeSigned p z))
 signedCall SignedWrite.Bad = none
 
 -- a word that ends at a place, and the numbers after it: write_signed, and the words of plain numbers
-unfoldable pub numbersCall : List ℕ → ℕ → Option Call
+abbrev pub numbersCall : List ℕ → ℕ → Option Call
 numbersCall line at =
     cond (sameb (part 0 at line) (119 ∷ 114 ∷ 105 ∷ 116 ∷ 101 ∷ 95 ∷ 115 ∷ 105 ∷ 103 ∷ 110 ∷ 101 ∷ 100 ∷ [])) (signedCall (signedWriteAt line at))
     (callOf (part 0 at line) (numbersAt line at))

@@ -3,7 +3,7 @@ use Prim.Native.Nat.{ℕ, _+_, _-_, _≤_}
 use mathlib.Core.Path.{_≡_, sym, ap, _∙_}
 use mathlib.Core.Bool.{Bool, true, false, cond}
 use mathlib.Core.Option.{Option, none}
-use mathlib.Core.List.{List, [], _∷_}
+use mathlib.Core.List.{List, []}
 use native.Mathlib.Omega.{arith}
 use lib.ListN.{length, drop, length-drop, drop-of-length-le}
 use lib.Seq.{take-all}
@@ -25,7 +25,7 @@ use Rattle.history_lines.specs.declared.signed.SignedWrite.the-variants as Sign
 use Rattle.history_lines.specs.Spelling.{found, nameWords}
 use Rattle.history_lines.specs.Naming.{namedAt}
 use Rattle.history_lines.specs.Signing.{signedWriteAt}
-use Rattle.history_calls.specs.Calls.{twoCall, threeCall, nameCall, namedCall, withName, callOf, signedCall, numbersCall, callFrom, callIn}
+use Rattle.history_calls.specs.Calls.{twoCall, threeCall, nameCall, namedCall, withName, callOf, signedCall, callFrom, callIn}
 use Rattle.history_calls.specs.Told.{Told, toldOf, tell-call, tell-signed, tell-count, tell-none}
 
 module _ (s t : List ℕ) (y : Told) where
@@ -89,14 +89,11 @@ module _ (s t : List ℕ) (y : Told) where
 
   -- ---- a word and the numbers after it, plain ones or a signed one at the end
 
-  module _ (b : Bool) (line : List ℕ) (at : ℕ) (e : b ≡ sameb (part 0 at line) (119 ∷ 114 ∷ 105 ∷ 116 ∷ 101 ∷ 95 ∷ 115 ∷ 105 ∷ 103 ∷ 110 ∷ 101 ∷ 100 ∷ [])) where
-    pub signed-line : (w : SignedWrite) → b ≡ true → w ≡ signedWriteAt line at → y ≡ toldOf (signedCall w) s t → y ≡ toldOf (numbersCall line at) s t
-    unfolding numbersCall
-    signed-line w q h r = rw (sym e ∙ q) (r ∙ ap (λ z. toldOf (signedCall z) s t) h)
+  pub signed-read : (line : List ℕ) (at : ℕ) (w : SignedWrite) → w ≡ signedWriteAt line at → y ≡ toldOf (signedCall w) s t → y ≡ toldOf (signedCall (signedWriteAt line at)) s t
+  signed-read line at w q r = r ∙ ap (λ z. toldOf (signedCall z) s t) q
 
-    pub plain-line : (m : Numbers) → b ≡ false → m ≡ numbersAt line at → y ≡ toldOf (callOf (part 0 at line) m) s t → y ≡ toldOf (numbersCall line at) s t
-    unfolding numbersCall
-    plain-line m q h r = rw (sym e ∙ q) (r ∙ ap (λ z. toldOf (callOf (part 0 at line) z) s t) h)
+  pub numbers-read : (w line : List ℕ) (at : ℕ) (m : Numbers) → m ≡ numbersAt line at → y ≡ toldOf (callOf w m) s t → y ≡ toldOf (callOf w (numbersAt line at)) s t
+  numbers-read w line at m q r = r ∙ ap (λ z. toldOf (callOf w z) s t) q
 
   module _ (w : SignedWrite) where
     pub no-signed-write : w ≡ SignedWrite.Bad → y ≡ toldOf none s t → y ≡ toldOf (signedCall w) s t
@@ -113,6 +110,6 @@ pub ruleset counted = (tell-call, tell-count, tell-none, numbers-known, word-her
 
 pub ruleset heard = (word-read)
 
-pub ruleset parted = (tell-none, signed-line, plain-line, no-signed-write)
+pub ruleset parted = (tell-none, word-here, word-other, signed-read, numbers-read, no-signed-write)
 
 pub ruleset spoken = (tell-none, no-name-read, name-follows, nothing-follows)

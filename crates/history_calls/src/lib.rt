@@ -1,19 +1,20 @@
 // The call that a line asks for, made on the lent store and tables.
 use answers::Answer;
-use history_lines::Named;
 use history_lines::OfName;
 use history_lines::OfThree;
 use history_lines::OfTwo;
 use history_words::Numbers;
+use names::named;
 use signed::replied_signed;
 ghost use mathlib.Core.Path.{_≡_};
 ghost use Prim.Native.Nat.{_≤_};
 ghost use lib.ListN.{length};
 ghost use Rattle.answers.specs.Said.{said};
 ghost use Rattle.cells.specs.Outcomes.{lent};
-ghost use Rattle.history_calls.specs.Calls.{twoCall, threeCall, nameCall, namedCall, aloneCall, callOf, numbersCall, callIn};
+ghost use Rattle.history_calls.specs.Calls.{twoCall, threeCall, aloneCall, callOf, numbersCall, callIn};
 ghost use Rattle.history_calls.specs.Told.{told, toldOf, replyOf};
 
+pub mod names; // lines with a name
 pub mod signed; // signed numbers, given and taken
 
 // What a line is answered by: a call, a line for tests, a line that is neither.
@@ -97,42 +98,6 @@ fn on_three(
             number,
         )),
         OfThree::Unknown => Reply::Bad,
-    }
-}
-
-fn on_name(
-    store: &[u32],
-    tables: &mut [u32],
-    word: OfName,
-    user: u32,
-    entry: u32,
-    name: &[u8],
-) -> Reply
-    ensures { λ r. ⌜ told r (lent (now (store .entry)) (now (tables .exit))) ≡ toldOf (nameCall word user entry (now (name .entry))) (now (store .entry)) (now (tables .entry)) ⌝ }
-{
-    match word {
-        OfName::Work => replied(call_open::open_work(store, tables, user, entry, name)),
-        OfName::Read => replied(call_open::open_read(store, tables, user, entry, name)),
-        OfName::Rename => replied(call_rename::rename(store, tables, user, entry, name)),
-        OfName::Unknown => Reply::Bad,
-    }
-}
-
-// "NAME is all bytes after the space that follows E, up to the line's end, as they are (spaces too); where nothing follows E, with or
-// without that space, it is the empty byte string."
-fn named(store: &[u32], tables: &mut [u32], word: OfName, line: &[u8], at: usize) -> Reply
-    ensures { λ r. ⌜ told r (lent (now (store .entry)) (now (tables .exit))) ≡ toldOf (namedCall word (now (line .entry)) at) (now (store .entry)) (now (tables .entry)) ⌝ }
-{
-    let found = history_lines::named_at(line, at);
-    match found {
-        Named::Is(user, entry, to) => {
-            if line.len() <= to {
-                return on_name(store, tables, word, user, entry, &line[0..0]);
-            }
-            let from = to + 1;
-            on_name(store, tables, word, user, entry, &line[from..])
-        }
-        Named::Bad => Reply::Bad,
     }
 }
 

@@ -1,7 +1,7 @@
 use Rattle.history_calls.specs.Telling.{known}
 use borrow.Author.Needs.{needs}
-use Rattle.history_calls.proofs.on_name.Statement.{statement}
-use Rattle.history_calls.proofs.on_name.Tie as tie
+use Rattle.history_calls.proofs.names.on_name.Statement.{statement}
+use Rattle.history_calls.proofs.names.on_name.Tie as tie
 
 enum-told : tie.Need-enum-told
 enum-told c = search needs

@@ -1,7 +1,7 @@
 use Rattle.history_calls.specs.Telling.{spoken}
 use borrow.Author.Needs.{needs}
-use Rattle.history_calls.proofs.named.Statement.{statement}
-use Rattle.history_calls.proofs.named.Tie as tie
+use Rattle.history_calls.proofs.names.named.Statement.{statement}
+use Rattle.history_calls.proofs.names.named.Tie as tie
 
 named-at-requires : tie.Need-named-at-requires
 named-at-requires c κs = search needs
