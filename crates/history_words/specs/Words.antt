@@ -40,7 +40,8 @@ digitsFrom v (b ∷ bs) =
 unfoldable pub numberOf : List ℕ → Number
 numberOf word = cond (leb 1 (length word) && leb (length word) 10) (digitsFrom 0 word) number.Bad
 
--- ---- "A signed number is digits with or without one `-` before them, -2147483648 to 2147483647."; negsuc k is -(k + 1)
+-- ---- "A signed number is digits with or without one `-` before them, -2147483648 to 2147483647.", at most ten digits as of any number; `-` is byte 45,
+-- negsuc k is -(k + 1)
 
 unfoldable pub inRange : ℤ → SignedNumber
 inRange z = cond (ltZ z (negsuc 2147483647) || ltZ (pos 2147483647) z) signed.Bad (signed.Is z)

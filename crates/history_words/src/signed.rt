@@ -42,7 +42,7 @@ pub fn signed_number_of(word: &[u8]) -> SignedNumber
     if word.len() == 0 {
         return SignedNumber::Bad;
     }
-    if word[0] == 45 {
+    if word[0] == b'-' {
         return with_sign(true, crate::number_of(&word[1..]));
     }
     with_sign(false, crate::number_of(word))

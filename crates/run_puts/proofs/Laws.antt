@@ -75,7 +75,7 @@ module _ (o : Opening) (p : ℕ) (v : Position) (ev : v .0 ≡ valueOf o p) (k :
   pub stretch-many : (e : Position) → e .0 ≡ limitOf o p → (m : ℕ) → Ahead (o .species) (v .0) (e .0) m → (l : List ℕ) (n : ℕ) → Fewer m (length l) n → Fitting (o .species) l n k
       → 1 ≤ length l → Fits (o .species) l 0 → Many o p l k
   stretch-many e ee m a l n few fitting some first =
-      let f = fitting-fewer (o .species) l m (length l) n k few fitting first in
+      let f = fitting-fewer (o .species) l n k fitting m (length l) few first in
       let b = a .before in
       let c = f .first in
       record {

@@ -10,7 +10,7 @@ use lib.Dec.{leb, ltb, lit≤}
 use lib.Pow.{shl-exact}
 use lib.ListN.{length, getD, take, drop}
 use lib.Seq.{length-take-le, getD-take}
-use Rattle.combine.specs.laws.Below.{not-both, all-at}
+use Rattle.combine.specs.laws.Below.{all-at}
 use Rattle.combine.specs.laws.Numbers.{eq-or-ne}
 use Rattle.combine.specs.Below.{allBelow}
 use borrow.Author.Tests.{ltb-true, lt-leb}
@@ -38,17 +38,10 @@ module _ (s : ℕ) (l : List ℕ) (j : ℕ) (a : AllFit s l j) where
         }
 
     pub leading-stops : (most : ℕ) → j ≤ most → w ≡ true → Fitting s l most j
-    leading-stops most few t =
-        record {
-          few = few;
-          fit = a .fit;
-          some = λ m first. ⊎-elim
-              (λ (e : j ≡ 0). absurd (not-both (sym ew ∙ t) (subst (Fits s l) (sym e) first)))
-              (λ d. omega (arith, d)) (eq-or-ne j 0);
-        }
+    leading-stops most few t = record { few = few; fit = a .fit; stops = λ m. sym ew ∙ t }
 
   pub leading-ends : (most : ℕ) → j ≤ most → most ≤ j → Fitting s l most j
-  leading-ends most few all = record { few = few; fit = a .fit; some = λ m first. omega arith }
+  leading-ends most few all = record { few = few; fit = a .fit; stops = λ m. absurd (omega arith) }
 
 -- ---- all of them below the bound that the code makes of the width w
 
@@ -73,7 +66,7 @@ module _ (s : ℕ) (l : List ℕ) (most w : ℕ) (e : w ≡ widthOf s) (narrow :
             (λ (x : ℕ). x < 1 * 2 ^ w % 2 ^ 32)
             (getD-take (most - 0) l j 0 (omega arith))
             (ltb-true (getD firsts j 0) (1 * 2 ^ w % 2 ^ 32) (all-at (λ k. ltb (getD firsts k 0) (1 * 2 ^ w % 2 ^ 32)) (length firsts) all j (omega (arith, many, f))))));
-        some = λ m first. m;
+        stops = λ m. absurd (omega arith);
       }
 
 -- ---- of species 5, where a number is a cell
@@ -83,5 +76,5 @@ whole-fitting s l most e cells =
     record {
       few = omega arith;
       fit = λ j f. lt-leb (2 ^ widthOf s) (getD l j 0) (rw (ap (λ (k : ℕ). 2 ^ widthOf k) e ∙ ap (λ (k : ℕ). 2 ^ k) whole-width) (cells j .fits));
-      some = λ m first. m;
+      stops = λ m. absurd (omega arith);
     }

@@ -1,7 +1,7 @@
 -- Positions of one stretch, one after another, and how many elements of a list go there. Assumes nothing.
 use Prim.Native.Nat.{ℕ, _+_, _≤_, _<_}
 use mathlib.Core.Path.{_≡_}
-use mathlib.Core.Bool.{false}
+use mathlib.Core.Bool.{true, false}
 use mathlib.Core.List.{List}
 use lib.ListN.{getD}
 use Rattle.numbers.specs.declared.Number.the-variants.{Plain}
@@ -32,4 +32,4 @@ Fits s l j = tooWide s (Plain (getD l j 0)) ≡ false
 pub record Fitting (species : ℕ) (list : List ℕ) (most many : ℕ) : Type 0 where
   pub few : many ≤ most
   pub fit : (j : ℕ) → j < many → Fits species list j
-  pub some : 1 ≤ most → Fits species list 0 → 1 ≤ many
+  pub stops : many < most → tooWide species (Plain (getD list many 0)) ≡ true
