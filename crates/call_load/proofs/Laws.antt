@@ -13,7 +13,7 @@ use Rattle.packing.specs.Packing.{unpacked, rowOf}
 use Rattle.placing.specs.Sizes.{segmentCells, tablesLength}
 use Rattle.rules.specs.Gates.{startGate, imageGate}
 use Rattle.tables.specs.Sound.{soundb}
-use Rattle.image.specs.Image.{form1, imageLength, headWidths, headField, tablesFrom, imageb}
+use Rattle.image.specs.Image.{served, imageLength, headWidths, headField, tablesFrom, imageb}
 use Rattle.cells.specs.Outcomes.{lent, loadOut}
 
 module _ (s t img : List ℕ) where
@@ -28,11 +28,11 @@ module _ (s t img : List ℕ) where
 
     module _ (room : segmentCells ≤ length s) where
       -- the image is not sound: by its length, by its first cell, or by the tables that it gives
-      bad-image : imageb form1 (length s) img ≡ false → outcomeOf (refused 22) (lent s t) ≡ loadOut s t img
+      bad-image : imageb served (length s) img ≡ false → outcomeOf (refused 22) (lent s t) ≡ loadOut s t img
       unfolding loadOut imageGate startGate refuse_when_else_ settle
       bad-image h = rw (eq-eqb (length t) tablesLength long, le-leb 64 (length s) room, h) refl
 
-      pub image-length : (length img ≡ imageLength form1 → ⊥) → outcomeOf (refused 22) (lent s t) ≡ loadOut s t img
+      pub image-length : (length img ≡ imageLength served → ⊥) → outcomeOf (refused 22) (lent s t) ≡ loadOut s t img
       unfolding imageb
       image-length h = bad-image (sym (one-bad _ 0 (ne-eqb _ _ h)))
 
@@ -49,17 +49,17 @@ module _ (s t img : List ℕ) where
         unfolding imageb
         not-zero h = bad-image (sym (one-bad _ 2 (ne-eqb _ _ (λ z. h (field 2 ∙ z)))))
 
-        module _ (decoded : List ℕ) (made : decoded ≡ tablesFrom form1 img) where
+        module _ (decoded : List ℕ) (made : decoded ≡ tablesFrom served img) where
           pub unsound : soundb (length s) decoded ≡ false → outcomeOf (refused 22) (lent s t) ≡ loadOut s t img
           unfolding imageb
           unsound h = bad-image (sym (one-bad _ 3 (ap (soundb (length s)) (sym made) ∙ h)))
 
-          whole : length img ≡ imageLength form1 → getD head 0 0 ≡ 1 → getD head 2 0 ≡ 0 → soundb (length s) decoded ≡ true → imageb form1 (length s) img ≡ true
+          whole : length img ≡ imageLength served → getD head 0 0 ≡ 1 → getD head 2 0 ≡ 0 → soundb (length s) decoded ≡ true → imageb served (length s) img ≡ true
           unfolding imageb
           whole l f z h =
               sym (all-good _ (eq-eqb _ _ l, (eq-eqb _ _ (sym (field 0) ∙ f), (eq-eqb _ _ (sym (field 2) ∙ z), (ap (soundb (length s)) (sym made) ∙ h, tt)))))
 
-          pub loaded : length img ≡ imageLength form1 → getD head 0 0 ≡ 1 → getD head 2 0 ≡ 0 → soundb (length s) decoded ≡ true → (x : List ℕ) → x ≡ decoded → outcomeOf (done 0) (lent s x) ≡ loadOut s t img
+          pub loaded : length img ≡ imageLength served → getD head 0 0 ≡ 1 → getD head 2 0 ≡ 0 → soundb (length s) decoded ≡ true → (x : List ℕ) → x ≡ decoded → outcomeOf (done 0) (lent s x) ≡ loadOut s t img
           unfolding loadOut imageGate startGate refuse_when_else_ settle
           loaded l f z h x e =
               rw (eq-eqb (length t) tablesLength long, le-leb 64 (length s) room, whole l f z h) (ap (λ (y : List ℕ). outcomeOf (done 0) (lent s y)) (e ∙ made))

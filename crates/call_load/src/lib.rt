@@ -8,13 +8,13 @@ ghost use mathlib.Core.Path.{_≡_};
 ghost use Prim.Native.Nat.{_≤_};
 ghost use lib.ListN.{length, replicate};
 ghost use Rattle.placing.specs.Sizes.{leastStore, tablesLength};
-ghost use Rattle.image.specs.Image.{form1, imageLength};
+ghost use Rattle.image.specs.Image.{served, imageLength};
 ghost use Rattle.cells.specs.Outcomes.{outcome, loadOut};
 
 // The image is decoded beside the tables and judged there: no cell of the tables changes before the verdict.
 fn judged(store: &[u32], tables: &mut [u32], image: &[u32], beside: &mut [u32]) -> Answer
     requires { ⌜ (length (now tables) ≡ tablesLength) × (leastStore ≤ length (now store)) ⌝ }
-    requires { ⌜ (length (now image) ≡ imageLength form1) × (now beside ≡ replicate tablesLength 0) ⌝ }
+    requires { ⌜ (length (now image) ≡ imageLength served) × (now beside ≡ replicate tablesLength 0) ⌝ }
     ensures { λ r. ⌜ outcome r (now (store .entry)) (now (tables .exit)) ≡ loadOut (now (store .entry)) (now (tables .entry)) (now (image .entry)) ⌝ }
 {
     let head = image_code::take_head(&image[0..1]);

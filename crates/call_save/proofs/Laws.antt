@@ -9,7 +9,7 @@ use Rattle.combine.specs.Verdict.{done, refused, refuse_when_else_}
 use Rattle.combine.specs.Outcome.{outcomeOf, settle}
 use Rattle.rules.specs.Gates.{startGate, imageGate}
 use Rattle.tables.specs.Sound.{soundb}
-use Rattle.image.specs.Image.{form1, imageLength, imageOf}
+use Rattle.image.specs.Image.{served, imageLength, imageOf}
 use Rattle.cells.specs.Outcomes.{saved, saveOut}
 
 module _ (s t img : List ℕ) where
@@ -18,10 +18,10 @@ module _ (s t img : List ℕ) where
   unsound h = rw h refl
 
   module _ (ok : soundb (length s) t ≡ true) where
-    pub wrong-length : (length img ≡ imageLength form1 → ⊥) → outcomeOf (refused 22) (saved s t img) ≡ saveOut s t img
+    pub wrong-length : (length img ≡ imageLength served → ⊥) → outcomeOf (refused 22) (saved s t img) ≡ saveOut s t img
     unfolding saveOut imageGate startGate refuse_when_else_ settle
-    wrong-length h = rw (ok, ne-eqb (length img) (imageLength form1) h) refl
+    wrong-length h = rw (ok, ne-eqb (length img) (imageLength served) h) refl
 
-    pub written : length img ≡ imageLength form1 → (x : List ℕ) → x ≡ imageOf form1 t → outcomeOf (done 0) (saved s t x) ≡ saveOut s t img
+    pub written : length img ≡ imageLength served → (x : List ℕ) → x ≡ imageOf served t → outcomeOf (done 0) (saved s t x) ≡ saveOut s t img
     unfolding saveOut imageGate startGate refuse_when_else_ settle
-    written h x e = rw (ok, eq-eqb (length img) (imageLength form1) h) (ap (λ (y : List ℕ). outcomeOf (done 0) (saved s t y)) e)
+    written h x e = rw (ok, eq-eqb (length img) (imageLength served) h) (ap (λ (y : List ℕ). outcomeOf (done 0) (saved s t y)) e)

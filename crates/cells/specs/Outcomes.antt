@@ -22,7 +22,7 @@ use Rattle.segments.specs.Deeds.{segmentLevel, performStore}
 use Rattle.segments.specs.Moves.{movedCells, tidyMoves, tidyCount}
 use Rattle.tables.specs.Layout.{freshTables}
 use Rattle.tables.specs.Sound.{soundb}
-use Rattle.image.specs.Image.{form1, imageLength, imageOf, imageb, tablesFrom}
+use Rattle.image.specs.Image.{served, imageLength, imageOf, imageb, tablesFrom}
 use Rattle.cells.specs.Says.{houseOf, written}
 use Rattle.cells.specs.Moved.{movedTables}
 
@@ -76,7 +76,7 @@ freshOut s t = settle (lent s t) (startGate (lengthsb s t) (done (0, lent s (fre
 
 -- ", and a load puts the image's there"
 unfoldable pub loadOut : (store tables image : Cells) → Outcome Lent
-loadOut s t img = settle (lent s t) (imageGate (lengthsb s t) (imageb form1 (length s) img) (done (0, lent s (tablesFrom form1 img))))
+loadOut s t img = settle (lent s t) (imageGate (lengthsb s t) (imageb served (length s) img) (done (0, lent s (tablesFrom served img))))
 
 -- a save writes the lent image buffer too
 pub record Saved : Type 0 where
@@ -87,7 +87,7 @@ abbrev pub saved : (store tables image : Cells) → Saved
 saved s t img = record { cells = lent s t; image = img }
 
 unfoldable pub saveOut : (store tables image : Cells) → Outcome Saved
-saveOut s t img = settle (saved s t img) (imageGate (soundLent s t) (eqb (length img) (imageLength form1)) (done (0, saved s t (imageOf form1 t))))
+saveOut s t img = settle (saved s t img) (imageGate (soundLent s t) (eqb (length img) (imageLength served)) (done (0, saved s t (imageOf served t))))
 
 -- ---- document 02, P13: segments move
 

@@ -14,7 +14,7 @@ use Rattle.rules.specs.House.{closedDown}
 use Rattle.segments.specs.Free.{isFree}
 use Rattle.tables.specs.Layout.{segmentsIn, noneOpen}
 use Rattle.tables.specs.Lists.{heldIn, listed}
-use Rattle.image.specs.Image.{form1, imageLength, imageb}
+use Rattle.image.specs.Image.{served, imageLength, imageb}
 use Rattle.cells.specs.Says.{houseOf}
 use Rattle.cells.specs.Outcomes.{Lent, lent, soundLent, lengthsb, freeOut, loadOut, saved, saveOut}
 use Rattle.model.specs.Model.{Model, model}
@@ -85,7 +85,7 @@ Demand2FromStart = (c : Start) (cs : List Call) (x : Lent) → isDone (outcomeOn
 -- save then load: the same permanent files, and nothing open
 abbrev pub SaveThenLoad : Type 0
 SaveThenLoad =
-    (x : Lent) (buffer tables : List ℕ) → Sound x → length buffer ≡ imageLength form1 → length tables ≡ tablesLength
+    (x : Lent) (buffer tables : List ℕ) → Sound x → length buffer ≡ imageLength served → length tables ≡ tablesLength
     → let o = loadOut (x .store) tables (saveOut (x .store) (x .tables) buffer .after .image) in
     let m = viewOn x in
     (o ≡ outcomeOf (done 0) (lent (x .store) (noneOpen (take openingsStart (x .tables))))) × (viewOn (o .after) ≡ model (m .cells) (closedDown (m .house)))
@@ -97,7 +97,7 @@ AreCells l = (k : ℕ) → getD l k 0 < 4294967296
 -- load then save: the same cells
 abbrev pub LoadThenSave : Type 0
 LoadThenSave =
-    (x : Lent) (img buffer : List ℕ) → AreCells img → length (x .tables) ≡ tablesLength → imageb form1 (length (x .store)) img ≡ true → length buffer ≡ imageLength form1
+    (x : Lent) (img buffer : List ℕ) → AreCells img → length (x .tables) ≡ tablesLength → imageb served (length (x .store)) img ≡ true → length buffer ≡ imageLength served
     → let y = loadOut (x .store) (x .tables) img .after in
     saveOut (y .store) (y .tables) buffer ≡ outcomeOf (done 0) (saved (y .store) (y .tables) img)
 

@@ -1,7 +1,7 @@
 // The lengths that a caller lends.
 ghost use mathlib.Core.Path.{_≡_};
 ghost use Rattle.placing.specs.Sizes.{tablesLength};
-ghost use Rattle.image.specs.Image.{form1, imageLength};
+ghost use Rattle.image.specs.Image.{served, imageLength};
 
 #[no_mangle]
 pub extern "C" fn dorrivand_tables_length() -> usize
@@ -12,7 +12,7 @@ pub extern "C" fn dorrivand_tables_length() -> usize
 
 #[no_mangle]
 pub extern "C" fn dorrivand_image_length() -> usize
-    ensures { λ r. ⌜ r ≡ imageLength form1 ⌝ }
+    ensures { λ r. ⌜ r ≡ imageLength served ⌝ }
 {
     image::IMAGE_LENGTH
 }

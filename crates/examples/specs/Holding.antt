@@ -10,7 +10,7 @@ use Rattle.placing.specs.Sizes.{Cells, tablesLength}
 use Rattle.numbers.specs.Numbers.{signedOf}
 use Rattle.rules.specs.Calls.{Call}
 use Rattle.rules.specs.Runs.{RunTold}
-use Rattle.image.specs.Image.{form1, imageLength}
+use Rattle.image.specs.Image.{served, imageLength}
 use Rattle.cells.specs.Outcomes.{Lent, lent, saved, saveOut, callRun}
 use Rattle.demands.specs.History.{outcomeOn, afterCall, final}
 
@@ -39,7 +39,7 @@ TellsSo n calls told = (store tables : Cells) → length store ≡ n → length 
 -- a save after the calls is done, leaves the image in the buffer, and store and tables as the calls left them
 unfoldable pub SavesAfter : (cells : ℕ) (calls : List Call) (image : Cells) → Type 0
 SavesAfter n calls image =
-    (store tables buffer : Cells) → length store ≡ n → length tables ≡ tablesLength → length buffer ≡ imageLength form1
+    (store tables buffer : Cells) → length store ≡ n → length tables ≡ tablesLength → length buffer ≡ imageLength served
     → let x = final calls (lent store tables) in
     saveOut (x .store) (x .tables) buffer ≡ outcomeOf (done 0) (saved (x .store) (x .tables) image)
 

@@ -27,6 +27,10 @@ recordWidths = 1 ∷ (replicate nameSymbols 6 ++ (3 ∷ 1 ∷ 3 ∷ 24 ∷ 24 �
 abbrev pub form1 : Form
 form1 = record { number = 1; widths = recordWidths; cells = 14 }
 
+-- the form that save writes and load takes
+abbrev pub served : Form
+served = form1
+
 -- cell 0, and the records: 897 cells of form 1
 abbrev pub imageLength : Form → ℕ
 imageLength f = 1 + places * f .cells

@@ -10,7 +10,7 @@ use lib.Seq.{length-take-le, take-at, drop-at, drop-append-add, drop-drop}
 use Rattle.combine.specs.Lists.{joined, tab, part}
 use Rattle.placing.specs.Sizes.{places, recordLength, tablesLength}
 use Rattle.tables.specs.Layout.{recordBase}
-use Rattle.image.specs.Image.{form1, imageLength}
+use Rattle.image.specs.Image.{served, imageLength}
 use Rattle.image_code.specs.Pieces.{pieces-suc, pieces-length}
 
 -- the cells from a to e
@@ -57,8 +57,8 @@ module _ (f : ℕ → List ℕ) (m : ℕ) (long : (p : ℕ) → length (f p) ≡
   all-placed x p e q r i = i ∙ ap placed q ∙ ap (λ (k : ℕ). take 1 x₀ ++ (joined (tab places f) ++ drop k x₀)) r
 
 -- nothing lies beyond the image's last record
-pub image-full : (x y z : List ℕ) → length x ≡ imageLength form1 → z ≡ take 1 x ++ (y ++ drop (imageLength form1) x) → z ≡ take 1 x ++ y
-image-full x y z n e = e ∙ ap (λ (k : List ℕ). take 1 x ++ (y ++ k)) (drop-of-length-le x {i = imageLength form1} (omega arith)) ∙ ap (λ (k : List ℕ). take 1 x ++ k) (append-nil y)
+pub image-full : (x y z : List ℕ) → length x ≡ imageLength served → z ≡ take 1 x ++ (y ++ drop (imageLength served) x) → z ≡ take 1 x ++ y
+image-full x y z n e = e ∙ ap (λ (k : List ℕ). take 1 x ++ (y ++ k)) (drop-of-length-le x {i = imageLength served} (omega arith)) ∙ ap (λ (k : List ℕ). take 1 x ++ k) (append-nil y)
 
 -- ---- zeros
 

@@ -5,17 +5,17 @@ use mathlib.Core.List.{List}
 use lib.ListN.{length}
 use Rattle.packing_rows.specs.Cells.{length-cellsOf}
 use Rattle.packing_rows.specs.Pack.{unpacked-length}
-use Rattle.image.specs.Image.{form1, recordWidths, headImage, recordImage, recordFrom}
+use Rattle.image.specs.Image.{served, recordWidths, headImage, recordImage, recordFrom}
 use Rattle.image_code.specs.Widths.{record-many}
 
-pub head-length : (n : ℕ) → length (headImage form1 n) ≡ 1
+pub head-length : (n : ℕ) → length (headImage served n) ≡ 1
 unfolding headImage
 head-length n = length-cellsOf 1 _
 
-pub record-image-length : (t : List ℕ) (p : ℕ) → length (recordImage form1 t p) ≡ 14
+pub record-image-length : (t : List ℕ) (p : ℕ) → length (recordImage served t p) ≡ 14
 unfolding recordImage
 record-image-length t p = length-cellsOf 14 _
 
-pub record-from-length : (img : List ℕ) (p : ℕ) → length (recordFrom form1 img p) ≡ 50
+pub record-from-length : (img : List ℕ) (p : ℕ) → length (recordFrom served img p) ≡ 50
 unfolding recordFrom
 record-from-length img p = unpacked-length recordWidths _ ∙ record-many

@@ -13,7 +13,7 @@ ghost use Rattle.combine.specs.Lists.{joined, tab};
 ghost use Rattle.packing.specs.Packing.{packed, unpacked, rowOf, cellsOf};
 ghost use Rattle.placing.specs.Sizes.{tablesLength, places, mostSegments, recordLength, openingsStart};
 ghost use Rattle.tables.specs.laws.Sound.{Ranged};
-ghost use Rattle.image.specs.Image.{form1, imageLength, headWidths, recordWidths, headImage, recordImage, imageOf, recordFrom, tablesFrom};
+ghost use Rattle.image.specs.Image.{served, imageLength, headWidths, recordWidths, headImage, recordImage, imageOf, recordFrom, tablesFrom};
 ghost use Rattle.image_code.specs.Fits.{Fits, Writable};
 
 mod widths;
@@ -26,7 +26,7 @@ const SECOND_IN_IMAGE: usize = 1 + RECORD_CELLS;
 // The image's first cell: form 1, the number of segments, zero bits.
 fn put_head(segments: u32, out: &mut [u32])
     requires { ⌜ (length (now out) ≡ 1) × (segments ≤ mostSegments) ⌝ }
-    ensures { λ _. ⌜ now (out .exit) ≡ headImage form1 segments ⌝ }
+    ensures { λ _. ⌜ now (out .exit) ≡ headImage served segments ⌝ }
 {
     let values = [1, segments, 0];
     packing_rows::pack(out, &widths::HEAD, &values);
@@ -44,8 +44,8 @@ pub fn take_head(cells: &[u32]) -> [u32; 3]
 
 // A record's 50 cells of the tables into its 14 of the image: the fields fill four of them, the segment numbers ten.
 fn pack_record(values: &[u32], out: &mut [u32])
-    requires { ⌜ (length (now values) ≡ recordLength) × (length (now out) ≡ form1 .cells) × Fits (now values) ⌝ }
-    ensures { λ _. ⌜ now (out .exit) ≡ cellsOf (form1 .cells) (packed recordWidths (now (values .entry))) ⌝ }
+    requires { ⌜ (length (now values) ≡ recordLength) × (length (now out) ≡ served .cells) × Fits (now values) ⌝ }
+    ensures { λ _. ⌜ now (out .exit) ≡ cellsOf (served .cells) (packed recordWidths (now (values .entry))) ⌝ }
 {
     packing_rows::pack(
         &mut out[0..FIELD_CELLS],
@@ -61,8 +61,8 @@ fn pack_record(values: &[u32], out: &mut [u32])
 
 // The same for a record that may be unused: "an unused record is all zero", and so are its cells of the image.
 fn put_record(values: &[u32], out: &mut [u32])
-    requires { ⌜ (length (now values) ≡ recordLength) × (length (now out) ≡ form1 .cells) × Writable (now values) ⌝ }
-    ensures { λ _. ⌜ now (out .exit) ≡ cellsOf (form1 .cells) (packed recordWidths (now (values .entry))) ⌝ }
+    requires { ⌜ (length (now values) ≡ recordLength) × (length (now out) ≡ served .cells) × Writable (now values) ⌝ }
+    ensures { λ _. ⌜ now (out .exit) ≡ cellsOf (served .cells) (packed recordWidths (now (values .entry))) ⌝ }
 {
     if values[0] == 0 {
         combine::fill_cells(out, 0);
@@ -73,7 +73,7 @@ fn put_record(values: &[u32], out: &mut [u32])
 
 // The 50 cells of the record that 14 cells of the image say.
 fn unpack_record(cells: &[u32], out: &mut [u32])
-    requires { ⌜ (length (now cells) ≡ form1 .cells) × (length (now out) ≡ recordLength) ⌝ }
+    requires { ⌜ (length (now cells) ≡ served .cells) × (length (now out) ≡ recordLength) ⌝ }
     ensures { λ _. ⌜ now (out .exit) ≡ unpacked recordWidths (rowOf (now (cells .entry))) ⌝ }
 {
     packing_rows::unpack(
@@ -90,7 +90,7 @@ fn unpack_record(cells: &[u32], out: &mut [u32])
 
 // The same where the 50 cells are zero: they stay so for cells that are all zero.
 fn take_record(cells: &[u32], out: &mut [u32])
-    requires { ⌜ (length (now cells) ≡ form1 .cells) × (now out ≡ replicate recordLength 0) ⌝ }
+    requires { ⌜ (length (now cells) ≡ served .cells) × (now out ≡ replicate recordLength 0) ⌝ }
     ensures { λ _. ⌜ now (out .exit) ≡ unpacked recordWidths (rowOf (now (cells .entry))) ⌝ }
 {
     if combine::all_zero(cells) {
@@ -101,8 +101,8 @@ fn take_record(cells: &[u32], out: &mut [u32])
 
 // "Saving writes the records only, whatever is open."
 fn put_records(tables: &[u32], image: &mut [u32])
-    requires { ⌜ Ranged (now tables) × (length (now image) ≡ imageLength form1) ⌝ }
-    ensures { λ _. ⌜ now (image .exit) ≡ take 1 (now (image .entry)) ++ joined (tab places (recordImage form1 (now (tables .entry)))) ⌝ }
+    requires { ⌜ Ranged (now tables) × (length (now image) ≡ imageLength served) ⌝ }
+    ensures { λ _. ⌜ now (image .exit) ≡ take 1 (now (image .entry)) ++ joined (tab places (recordImage served (now (tables .entry)))) ⌝ }
 {
     let mut p = 0;
     while p < PLACES {
@@ -116,8 +116,8 @@ fn put_records(tables: &[u32], image: &mut [u32])
 
 // The records of the image into tables that are zero behind their first cell.
 fn take_records(image: &[u32], tables: &mut [u32])
-    requires { ⌜ (length (now image) ≡ imageLength form1) × (length (now tables) ≡ tablesLength) × (drop 1 (now tables) ≡ replicate (tablesLength - 1) 0) ⌝ }
-    ensures { λ _. ⌜ now (tables .exit) ≡ take 1 (now (tables .entry)) ++ (joined (tab places (recordFrom form1 (now (image .entry)))) ++ drop openingsStart (now (tables .entry))) ⌝ }
+    requires { ⌜ (length (now image) ≡ imageLength served) × (length (now tables) ≡ tablesLength) × (drop 1 (now tables) ≡ replicate (tablesLength - 1) 0) ⌝ }
+    ensures { λ _. ⌜ now (tables .exit) ≡ take 1 (now (tables .entry)) ++ (joined (tab places (recordFrom served (now (image .entry)))) ++ drop openingsStart (now (tables .entry))) ⌝ }
 {
     let mut p = 0;
     while p < PLACES {
@@ -131,8 +131,8 @@ fn take_records(image: &[u32], tables: &mut [u32])
 
 // The image of sound tables.
 pub fn put_image(tables: &[u32], image: &mut [u32])
-    requires { ⌜ Ranged (now tables) × (length (now image) ≡ imageLength form1) ⌝ }
-    ensures { λ _. ⌜ now (image .exit) ≡ imageOf form1 (now (tables .entry)) ⌝ }
+    requires { ⌜ Ranged (now tables) × (length (now image) ≡ imageLength served) ⌝ }
+    ensures { λ _. ⌜ now (image .exit) ≡ imageOf served (now (tables .entry)) ⌝ }
 {
     put_head(tables[0], &mut image[0..1]);
     put_records(tables, image);
@@ -140,8 +140,8 @@ pub fn put_image(tables: &[u32], image: &mut [u32])
 
 // The tables of the image, with nothing open, where all was zero.
 pub fn take_image(image: &[u32], tables: &mut [u32])
-    requires { ⌜ (length (now image) ≡ imageLength form1) × (now tables ≡ replicate tablesLength 0) ⌝ }
-    ensures { λ _. ⌜ now (tables .exit) ≡ tablesFrom form1 (now (image .entry)) ⌝ }
+    requires { ⌜ (length (now image) ≡ imageLength served) × (now tables ≡ replicate tablesLength 0) ⌝ }
+    ensures { λ _. ⌜ now (tables .exit) ≡ tablesFrom served (now (image .entry)) ⌝ }
 {
     let head = take_head(&image[0..1]);
     tables[0] = head[1];

@@ -8,7 +8,7 @@ use Rattle.combine.specs.Verdict.{Said, done, isDone, onDone}
 use Rattle.combine.specs.Outcome.{Outcome, outcomeOf, settle}
 use Rattle.combine.specs.Run.{Ran, runOver, admitted}
 use Rattle.placing.specs.Sizes.{Cells, leastStore, entryOf}
-use Rattle.image.specs.Image.{form1, imageLength}
+use Rattle.image.specs.Image.{served, imageLength}
 use Rattle.rules.specs.Calls.{Request, Start, fresh, load, Question, save, count, Arranging, tidy, Run, Call, starts, asks, arranges, on, runs}
 use Rattle.rules.specs.Headings.{Open, isSome}
 use Rattle.rules.specs.Effects.{Effect}
@@ -50,7 +50,7 @@ startOnModel look (load img) m = settle m (imageGate (leb leastStore (m .cells))
 
 -- the answer to a question
 abbrev pub askModel : Question → Model → Said
-askModel (save img) m = imageGate true (eqb (length img) (imageLength form1)) (done 0)
+askModel (save img) m = imageGate true (eqb (length img) (imageLength served)) (done 0)
 askModel (count u) m = userGate true u (done (free (m .house)))
 
 -- the answer to a call that arranges segments: users know the same afterwards

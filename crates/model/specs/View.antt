@@ -10,7 +10,7 @@ use Rattle.store.specs.Store.{elementsIn}
 use Rattle.rules.specs.Headings.{Open, filing, opening, value}
 use Rattle.rules.specs.House.{house}
 use Rattle.segments.specs.Free.{SegmentRecord, SegmentOpening, SegmentHouse, placeSegments}
-use Rattle.image.specs.Image.{form1, imageb, tablesFrom}
+use Rattle.image.specs.Image.{served, imageb, tablesFrom}
 use Rattle.cells.specs.Says.{houseOf}
 use Rattle.model.specs.Model.{File, Body, body, Files, Model, model}
 
@@ -40,4 +40,4 @@ view s t = model (length s) (viewHouse s (houseOf t))
 
 -- the files that an image holds over the store s, none where it is not sound
 unfoldable pub filesIn : (store image : Cells) → Option Files
-filesIn s img = cond (imageb form1 (length s) img) (some (viewHouse s (houseOf (tablesFrom form1 img)))) none
+filesIn s img = cond (imageb served (length s) img) (some (viewHouse s (houseOf (tablesFrom served img)))) none

@@ -14,7 +14,7 @@ use Rattle.placing.specs.Sizes.{freshSegments, segmentCells, tablesLength}
 use Rattle.rules.specs.Gates.{startGate, imageGate}
 use Rattle.tables.specs.Layout.{freshTables}
 use Rattle.tables.specs.Sound.{soundb}
-use Rattle.image.specs.Image.{form1, imageb, tablesFrom}
+use Rattle.image.specs.Image.{served, imageb, tablesFrom}
 use Rattle.cells.specs.Outcomes.{Lent, lent, lengthsb, freshOut, loadOut}
 
 module _ (P : Outcome Lent → Type 0) (s t : List ℕ) where
@@ -27,11 +27,11 @@ module _ (P : Outcome Lent → Type 0) (s t : List ℕ) where
       go false e = refusal
 
   pub load-cases : (img : List ℕ) → ((n : ℕ) → P (outcomeOf (refused n) (lent s t)))
-      → (lengthsb s t ≡ true → imageb form1 (length s) img ≡ true → P (outcomeOf (done 0) (lent s (tablesFrom form1 img)))) → P (loadOut s t img)
+      → (lengthsb s t ≡ true → imageb served (length s) img ≡ true → P (outcomeOf (done 0) (lent s (tablesFrom served img)))) → P (loadOut s t img)
   unfolding loadOut imageGate startGate settle refuse_when_else_
-  load-cases img refusal start = go (lengthsb s t) (imageb form1 (length s) img) refl refl
+  load-cases img refusal start = go (lengthsb s t) (imageb served (length s) img) refl refl
     where
-      go : (b c : Bool) → lengthsb s t ≡ b → imageb form1 (length s) img ≡ c → P (settle (lent s t) (imageGate b c (done (0, lent s (tablesFrom form1 img)))))
+      go : (b c : Bool) → lengthsb s t ≡ b → imageb served (length s) img ≡ c → P (settle (lent s t) (imageGate b c (done (0, lent s (tablesFrom served img)))))
       go true true e i = start e i
       go true false e i = refusal 22
       go false c e i = refusal 20
@@ -44,6 +44,6 @@ module _ (s t : List ℕ) where
   pub large-store : lengthsb s t ≡ true → segmentCells ≤ length s
   large-store e = leb-true 64 (length s) (right-of (eqb (length t) tablesLength) (leb 64 (length s)) e)
 
-pub image-sound : (cells : ℕ) (img : List ℕ) → imageb form1 cells img ≡ true → soundb cells (tablesFrom form1 img) ≡ true
+pub image-sound : (cells : ℕ) (img : List ℕ) → imageb served cells img ≡ true → soundb cells (tablesFrom served img) ≡ true
 unfolding imageb
 image-sound cells img ok = each-of _ ok .1 .1 .1 .0

@@ -18,7 +18,7 @@ use Rattle.segments.specs.Free.{SegmentHouse, freeCount}
 use Rattle.tables.specs.Layout.{freshTables}
 use Rattle.tables.specs.Sound.{soundb}
 use Rattle.tables.specs.laws.Sound.{fits-store}
-use Rattle.image.specs.Image.{form1, imageb, tablesFrom}
+use Rattle.image.specs.Image.{served, imageb, tablesFrom}
 use Rattle.cells.specs.Says.{houseOf}
 use Rattle.cells.specs.Outcomes.{Lent, lent, soundLent, lengthsb, requestOut, freeOut, freshOut, loadOut}
 use Rattle.cells.specs.laws.Operator.{fresh-says}
@@ -87,15 +87,15 @@ module _ (s t : List ℕ) where
 
     pub load-agreed : (img : List ℕ) → Agrees (loadOut s t img) (startOnModel (lookOn (lent s t)) (load img) (view s t))
     unfolding loadOut imageGate startGate settle refuse_when_else_ view filesIn
-    load-agreed img = rw large (go (leb 64 (length s)) (imageb form1 (length s) img))
+    load-agreed img = rw large (go (leb 64 (length s)) (imageb served (length s) img))
       where
         loaded : Files
-        loaded = viewHouse s (houseOf (tablesFrom form1 img))
+        loaded = viewHouse s (houseOf (tablesFrom served img))
 
         look : Bool → Option Files
         look c = cond c (some loaded) none
 
-        go : (b c : Bool) → Agrees (settle (lent s t) (imageGate b c (done (0, lent s (tablesFrom form1 img)))))
+        go : (b c : Bool) → Agrees (settle (lent s t) (imageGate b c (done (0, lent s (tablesFrom served img)))))
             (settle (view s t) (imageGate b (isSome (look c)) (done (0, model (length s) (filesOr (viewHouse s (houseOf t)) (look c))))))
         go true true = record { answer = refl; after = refl }
         go true false = record { answer = refl; after = refl }

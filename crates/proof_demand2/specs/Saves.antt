@@ -14,7 +14,7 @@ use Rattle.rules.specs.House.{closedDown}
 use Rattle.rules.specs.Runs.{noRun}
 use Rattle.segments.specs.Free.{SegmentHouse}
 use Rattle.tables.specs.laws.Sound.{ranged-of}
-use Rattle.image.specs.Image.{form1, imageLength, imageOf, tablesFrom}
+use Rattle.image.specs.Image.{served, imageLength, imageOf, tablesFrom}
 use Rattle.cells.specs.Says.{houseOf}
 use Rattle.cells.specs.Outcomes.{Lent, Saved, saved, soundLent, saveOut}
 use Rattle.model.specs.Model.{Files, Model}
@@ -33,15 +33,15 @@ modelSaid s t img a = (report (asks (save img)) a (some (closedDown (viewHouse s
 
 module _ (s t : List ℕ) (sound : soundLent s t ≡ true) where
   -- whatever a save writes is sound, and holds the permanent files
-  pub saved-files : filesIn s (imageOf form1 t) ≡ some (closedDown (viewHouse s (houseOf t)))
+  pub saved-files : filesIn s (imageOf served t) ≡ some (closedDown (viewHouse s (houseOf t)))
   unfolding filesIn
   saved-files =
-      ap (λ (b : Bool). cond {A = Option Files} b (some (viewHouse s (houseOf (tablesFrom form1 (imageOf form1 t))))) none) (saved-sound (length s) t sound)
+      ap (λ (b : Bool). cond {A = Option Files} b (some (viewHouse s (houseOf (tablesFrom served (imageOf served t))))) none) (saved-sound (length s) t sound)
       ∙ ap (λ (c : List ℕ). some (viewHouse s (houseOf c))) (saved-again (length s) t sound)
       ∙ ap (λ (h : SegmentHouse). some (viewHouse s h)) (closed-says t (ranged-of (length s) t sound .0))
 
   save-told : (img : List ℕ) (b : Bool)
-      → cellsSaid s t img (settle (saved s t img) (imageGate true b (done (0, saved s t (imageOf form1 t)))))
+      → cellsSaid s t img (settle (saved s t img) (imageGate true b (done (0, saved s t (imageOf served t)))))
       ≡ modelSaid s t img (imageGate true b (done 0))
   unfolding imageGate startGate settle refuse_when_else_
   save-told img true = λ i. (record { answer = done 0; image = saved-files i; run = noRun }, view s t)
@@ -52,6 +52,6 @@ unfolding saveOut view
 save-refines img x sound =
     let s = x .store in
     let t = x .tables in
-    let right = eqb (length img) (imageLength form1) in
-    ap (λ (b : Bool). cellsSaid s t img (settle (saved s t img) (imageGate b right (done (0, saved s t (imageOf form1 t)))))) sound
+    let right = eqb (length img) (imageLength served) in
+    ap (λ (b : Bool). cellsSaid s t img (settle (saved s t img) (imageGate b right (done (0, saved s t (imageOf served t)))))) sound
     ∙ save-told s t sound img right

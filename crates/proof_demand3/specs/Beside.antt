@@ -9,7 +9,7 @@ use lib.Dec.{T, ltb}
 use lib.ListN.{length}
 use Rattle.combine.specs.Verdict.{Said, isDone}
 use Rattle.placing.specs.Sizes.{entryOf}
-use Rattle.image.specs.Image.{form1, imageb, tablesFrom}
+use Rattle.image.specs.Image.{served, imageb, tablesFrom}
 use Rattle.cells.specs.Says.{houseOf}
 use Rattle.rules.specs.Calls.{Request, abandons, Run, Call, on, runs}
 use Rattle.rules.specs.Headings.{isSome}
@@ -29,9 +29,9 @@ use Rattle.proof_demand3.specs.Runs.{run-own}
 use Rattle.proof_demand3.specs.Steps.{SameLook, answeredIn, ToldAlike, Carried, step-another, Followed, step-alike}
 
 -- whether an image is sound is seen by the store's length
-look-length : (s : List ℕ) (img : List ℕ) → isSome (filesIn s img) ≡ imageb form1 (length s) img
+look-length : (s : List ℕ) (img : List ℕ) → isSome (filesIn s img) ≡ imageb served (length s) img
 unfolding filesIn
-look-length s img = go (imageb form1 (length s) img) (viewHouse s (houseOf (tablesFrom form1 img)))
+look-length s img = go (imageb served (length s) img) (viewHouse s (houseOf (tablesFrom served img)))
   where
     go : (b : Bool) (f : Files) → isSome (cond {A = Option Files} b (some f) none) ≡ b
     go true f = refl
@@ -43,7 +43,7 @@ cells-known x = refl
 
 same-look : (x y : Lent) → viewOn y .cells ≡ viewOn x .cells → SameLook (lookOn x) (lookOn y)
 same-look x y e img =
-    look-length (y .store) img ∙ ap (λ (n : ℕ). imageb form1 n img) (sym (cells-known y) ∙ e ∙ cells-known x) ∙ sym (look-length (x .store) img)
+    look-length (y .store) img ∙ ap (λ (n : ℕ). imageb served n img) (sym (cells-known y) ∙ e ∙ cells-known x) ∙ sym (look-length (x .store) img)
 
 -- ---- with the opening at entry i, and without it
 

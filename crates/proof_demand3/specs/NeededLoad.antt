@@ -15,7 +15,7 @@ use Rattle.rules.specs.Calls.{new, work, read, rename, write, next, opens, clos
 use Rattle.rules.specs.House.{freshHouse}
 use Rattle.segments.specs.State.{State, state, requestOnSegments}
 use Rattle.tables.specs.laws.Sound.{ranged-of}
-use Rattle.image.specs.Image.{form1, imageb}
+use Rattle.image.specs.Image.{served, imageb}
 use Rattle.cells.specs.Outcomes.{Lent}
 use Rattle.cells.specs.laws.Lowered.{stateOf}
 use Rattle.proof_images.specs.Done.{load-done}
@@ -83,7 +83,7 @@ module _ (y : Lent) (sound : Sound y) (cells : length (y .store) ≡ 8192) where
   pub loaded : stateOf (afterCall (starts (load imageWithA)) y) ≡ state (y .store) houseWithA
   loaded =
       ap (λ (o : Outcome Lent). stateOf (o .after)) (load-done (y .store) (y .tables) imageWithA (ranged-of (length (y .store)) (y .tables) sound .0)
-      (subst (λ (n : ℕ). imageb form1 n imageWithA ≡ true) (sym cells) image-sound))
+      (subst (λ (n : ℕ). imageb served n imageWithA ≡ true) (sym cells) image-sound))
       ∙ ap (state (y .store)) image-says
 
   pub loaded-sound : Sound (afterCall (starts (load imageWithA)) y)

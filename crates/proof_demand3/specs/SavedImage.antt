@@ -11,7 +11,7 @@ use Rattle.rules.specs.House.{closedDown, freshHouse}
 use Rattle.segments.specs.State.{State}
 use Rattle.tables.specs.Sound.{soundb}
 use Rattle.tables.specs.laws.Sound.{ranged-of}
-use Rattle.image.specs.Image.{form1, imageOf, imageb, tablesFrom}
+use Rattle.image.specs.Image.{served, imageOf, imageb, tablesFrom}
 use Rattle.cells.specs.Says.{houseOf}
 use Rattle.cells.specs.Outcomes.{Lent, Saved, callImage}
 use Rattle.proof_images.specs.Closed.{closed-says}
@@ -50,7 +50,7 @@ tables-say = after-says (freshHouse 8192) makesFileA houseWithA leads-to-a (star
 
 -- ---- the image
 
-image-so : imageOf form1 tables ≡ imageWithA
+image-so : imageOf served tables ≡ imageWithA
 image-so = after-image (freshHouse 8192) makesFileA houseWithA leads-to-a (startedOver 8192) (started-sound 8192 refl) start-says ∙ packed-a
 
 -- a save that is lent a buffer writes it there
@@ -60,10 +60,10 @@ buffer = replicate 897 0
 pub saved-so : callImage (asks (save buffer)) (cellsWithA .store) (cellsWithA .tables) ≡ imageWithA
 saved-so = ap (λ (o : Outcome Saved). o .after .image) (save-done (cellsWithA .store) tables buffer cells-sound (length-replicate {A = ℕ} 897 0)) ∙ image-so
 
-pub image-sound : imageb form1 8192 imageWithA ≡ true
-image-sound = subst (λ (img : List ℕ). imageb form1 8192 img ≡ true) image-so (saved-sound 8192 tables tables-sound)
+pub image-sound : imageb served 8192 imageWithA ≡ true
+image-sound = subst (λ (img : List ℕ). imageb served 8192 img ≡ true) image-so (saved-sound 8192 tables tables-sound)
 
-pub image-says : houseOf (tablesFrom form1 imageWithA) ≡ houseWithA
+pub image-says : houseOf (tablesFrom served imageWithA) ≡ houseWithA
 image-says =
-    sym (ap (λ (img : List ℕ). houseOf (tablesFrom form1 img)) image-so) ∙ ap houseOf (saved-again 8192 tables tables-sound)
+    sym (ap (λ (img : List ℕ). houseOf (tablesFrom served img)) image-so) ∙ ap houseOf (saved-again 8192 tables tables-sound)
     ∙ closed-says tables (ranged-of 8192 tables tables-sound .0) ∙ ap closedDown tables-say

@@ -23,7 +23,7 @@ use Rattle.tables.specs.Layout.{recordBase, segmentsIn, recordCells, recordAt, 
 use Rattle.tables.specs.laws.Rows.{record-row}
 use Rattle.tables.specs.Sound.{soundb}
 use Rattle.tables.specs.laws.Sound.{ranged-of}
-use Rattle.image.specs.Image.{form1, headWidths, recordWidths, headImage, recordImage, imageOf}
+use Rattle.image.specs.Image.{served, headWidths, recordWidths, headImage, recordImage, imageOf}
 use Rattle.cells.specs.Says.{houseOf, inPlaces, asRecord}
 use Rattle.cells.specs.Outcomes.{Lent, lent, saved}
 use Rattle.proof_cells_agree.specs.Canonical.{sound-canonical, record-determined}
@@ -40,17 +40,17 @@ use Rattle.proof_examples.specs.OnSegments.{stateAfter, goesOn, state-kn
 -- what unfolds this unfolds every definition that it rests on
 unfoldable pub imageBy : SegmentHouse → Cells
 unfolding tab joined field cellsOf sum packed headWidths recordWidths headImage recordCells unusedRecord inPlaces asRecord
-imageBy h = headImage form1 (h .segments) ++ joined (tab places (λ p. cellsOf 14 (packed recordWidths (recordCells (asRecord (getD (h .records) p none))))))
+imageBy h = headImage served (h .segments) ++ joined (tab places (λ p. cellsOf 14 (packed recordWidths (recordCells (asRecord (getD (h .records) p none))))))
 
-image-by : (cells : ℕ) (t : Cells) → soundb cells t ≡ true → imageOf form1 t ≡ imageBy (houseOf t)
+image-by : (cells : ℕ) (t : Cells) → soundb cells t ≡ true → imageOf served t ≡ imageBy (houseOf t)
 unfolding imageBy imageOf recordImage recordAt houseOf
 image-by cells t ok =
     let long = ranged-of cells t ok .0 in
     let row : (p : ℕ) → p < places → part t (recordBase p) 50 ≡ recordCells (asRecord (getD (houseOf t .records) p none)) =
     λ p l. sym (record-row (part t (recordBase p) 50) (length-part t (recordBase p) 50 (omega arith)))
     ∙ ap recordCells (record-determined t (sound-canonical cells t ok) p l (getD (houseOf t .records) p none) refl) in
-    ap (λ (l : List Cells). headImage form1 (segmentsIn t) ++ joined l)
-    (tab-cong places (λ p. cellsOf 14 (packed recordWidths (recordCells (asRecord (getD (houseOf t .records) p none))))) (recordImage form1 t)
+    ap (λ (l : List Cells). headImage served (segmentsIn t) ++ joined l)
+    (tab-cong places (λ p. cellsOf 14 (packed recordWidths (recordCells (asRecord (getD (houseOf t .records) p none))))) (recordImage served t)
     (λ p l. ap (λ (c : Cells). cellsOf 14 (packed recordWidths c)) (row p l)))
 
 -- ---- what calls lead to on segments, whatever the store's cells are, they lead to on cells
@@ -65,7 +65,7 @@ module _ (g : SegmentHouse) (calls : List Call) (h : SegmentHouse) (w : Leads g 
       ap (λ (m : State). m .house) (state-known calls x sound (w .going)) ∙ ap (λ (k : SegmentHouse). stateAfter calls (state (x .store) k) .house) says
       ∙ w .leads (x .store)
 
-  pub after-image : imageOf form1 (final calls x .tables) ≡ imageBy h
+  pub after-image : imageOf served (final calls x .tables) ≡ imageBy h
   after-image = image-by (length (final calls x .store)) (final calls x .tables) (sound-final calls x sound) ∙ ap imageBy after-says
 
 -- ---- after a fresh start over n cells, and calls

@@ -14,7 +14,7 @@ use Rattle.rules.specs.Gates.{startGate, imageGate}
 use Rattle.tables.specs.Layout.{segmentsIn}
 use Rattle.tables.specs.Sound.{numberb, soundb}
 use Rattle.tables.specs.laws.Sound.{ranged-of}
-use Rattle.image.specs.Image.{form1, imageLength, imageOf, headField, tablesFrom, imageb}
+use Rattle.image.specs.Image.{served, imageLength, imageOf, headField, tablesFrom, imageb}
 use Rattle.cells.specs.Outcomes.{lent, loadOut, saved, saveOut}
 use Rattle.proof_images.specs.Closed.{closed}
 use Rattle.proof_images.specs.Sound.{closed-sound}
@@ -32,47 +32,47 @@ room cells t ok =
 
 -- what a sound image says
 pub record SoundImage (cells : ℕ) (img : List ℕ) : Type 0 where
-  pub long : length img ≡ imageLength form1
+  pub long : length img ≡ imageLength served
   pub form : headField img 0 ≡ 1
   pub zeros : headField img 2 ≡ 0
-  pub sound : soundb cells (tablesFrom form1 img) ≡ true
+  pub sound : soundb cells (tablesFrom served img) ≡ true
 
-pub imageb-facts : (cells : ℕ) (img : List ℕ) → imageb form1 cells img ≡ true → SoundImage cells img
+pub imageb-facts : (cells : ℕ) (img : List ℕ) → imageb served cells img ≡ true → SoundImage cells img
 unfolding imageb
 imageb-facts cells img ok =
     let f = each-of _ ok in
     record {
-      long = eqb-true (length img) (imageLength form1) (f .0);
+      long = eqb-true (length img) (imageLength served) (f .0);
       form = eqb-true (headField img 0) 1 (f .1 .0);
       zeros = eqb-true (headField img 2) 0 (f .1 .1 .0);
       sound = f .1 .1 .1 .0;
     }
 
-pub save-done : (s t img : List ℕ) → soundb (length s) t ≡ true → length img ≡ imageLength form1 → saveOut s t img ≡ outcomeOf (done 0) (saved s t (imageOf form1 t))
+pub save-done : (s t img : List ℕ) → soundb (length s) t ≡ true → length img ≡ imageLength served → saveOut s t img ≡ outcomeOf (done 0) (saved s t (imageOf served t))
 unfolding saveOut imageGate startGate refuse_when_else_ settle
-save-done s t img ok l = rw (ok, eq-eqb (length img) (imageLength form1) l) refl
+save-done s t img ok l = rw (ok, eq-eqb (length img) (imageLength served) l) refl
 
-pub load-done : (s t img : List ℕ) → length t ≡ tablesLength → imageb form1 (length s) img ≡ true → loadOut s t img ≡ outcomeOf (done 0) (lent s (tablesFrom form1 img))
+pub load-done : (s t img : List ℕ) → length t ≡ tablesLength → imageb served (length s) img ≡ true → loadOut s t img ≡ outcomeOf (done 0) (lent s (tablesFrom served img))
 unfolding loadOut imageGate startGate refuse_when_else_ settle
 load-done s t img l ok =
-    rw (eq-eqb (length t) tablesLength l, le-leb 64 (length s) (room (length s) (tablesFrom form1 img) (imageb-facts (length s) img ok .sound)), ok) refl
+    rw (eq-eqb (length t) tablesLength l, le-leb 64 (length s) (room (length s) (tablesFrom served img) (imageb-facts (length s) img ok .sound)), ok) refl
 
 -- ---- the image of sound tables
 
 module _ (cells : ℕ) (t : List ℕ) (ok : soundb cells t ≡ true) where
-  pub saved-again : tablesFrom form1 (imageOf form1 t) ≡ closed t
+  pub saved-again : tablesFrom served (imageOf served t) ≡ closed t
   saved-again =
       let r = ranged-of cells t ok in
       tables-again t (r .0) (omega (arith, r .3)) (records-fit t r)
 
-  pub saved-sound : imageb form1 cells (imageOf form1 t) ≡ true
+  pub saved-sound : imageb served cells (imageOf served t) ≡ true
   unfolding imageb
   saved-sound =
       let few = ranged-of cells t ok .3 in
       sym (all-good _ (
-        eq-eqb (length (imageOf form1 t)) (imageLength form1) (image-length t),
+        eq-eqb (length (imageOf served t)) (imageLength served) (image-length t),
         (
-          eq-eqb (headField (imageOf form1 t) 0) 1 (image-field t (omega arith) 0),
-          (eq-eqb (headField (imageOf form1 t) 2) 0 (image-field t (omega arith) 2), (ap (soundb cells) saved-again ∙ closed-sound cells t ok, tt)),
+          eq-eqb (headField (imageOf served t) 0) 1 (image-field t (omega arith) 0),
+          (eq-eqb (headField (imageOf served t) 2) 0 (image-field t (omega arith) 2), (ap (soundb cells) saved-again ∙ closed-sound cells t ok, tt)),
         ),
       ))

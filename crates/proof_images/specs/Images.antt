@@ -11,7 +11,7 @@ use Rattle.combine.specs.laws.Parts.{length-part}
 use Rattle.packing.specs.Packing.{packed, unpacked, rowOf, cellsOf}
 use Rattle.placing.specs.Sizes.{places, tablesLength, recordLength, recordsStart, openingsStart}
 use Rattle.tables.specs.Layout.{recordBase, segmentsIn, noneOpen}
-use Rattle.image.specs.Image.{form1, imageLength, headWidths, recordWidths, headImage, recordImage, imageOf, headField, recordFrom, tablesFrom}
+use Rattle.image.specs.Image.{served, imageLength, headWidths, recordWidths, headImage, recordImage, imageOf, headField, recordFrom, tablesFrom}
 use Rattle.packing_rows.specs.Cells.{Cells, part-cells}
 use Rattle.packing_rows.specs.Pack.{unpacked-length}
 use Rattle.packing_rows.specs.Whole.{packed-back, cells-back}
@@ -23,7 +23,7 @@ use Rattle.image_code.specs.Fits.{Fits, head-fits}
 
 -- ---- the head
 
-head-back : (n : ℕ) → n < 2048 → unpacked headWidths (rowOf (headImage form1 n)) ≡ 1 ∷ n ∷ 0 ∷ []
+head-back : (n : ℕ) → n < 2048 → unpacked headWidths (rowOf (headImage served n)) ≡ 1 ∷ n ∷ 0 ∷ []
 unfolding headImage
 head-back n h = packed-back headWidths 1 head-sum (1 ∷ n ∷ 0 ∷ []) (sym head-many) (head-fits n h)
 
@@ -48,63 +48,63 @@ first-more (x ∷ t) n h = refl
 -- ---- the image of tables
 
 module _ (t : List ℕ) where
-  image-head : part (imageOf form1 t) 0 1 ≡ headImage form1 (segmentsIn t)
+  image-head : part (imageOf served t) 0 1 ≡ headImage served (segmentsIn t)
   unfolding imageOf
-  image-head = head-part (headImage form1 (segmentsIn t)) _ (head-length (segmentsIn t))
+  image-head = head-part (headImage served (segmentsIn t)) _ (head-length (segmentsIn t))
 
-  pub image-field : segmentsIn t < 2048 → (k : ℕ) → headField (imageOf form1 t) k ≡ getD (1 ∷ segmentsIn t ∷ 0 ∷ []) k 0
+  pub image-field : segmentsIn t < 2048 → (k : ℕ) → headField (imageOf served t) k ≡ getD (1 ∷ segmentsIn t ∷ 0 ∷ []) k 0
   unfolding headField
   image-field h k = ap (λ (x : List ℕ). getD (unpacked headWidths (rowOf x)) k 0) image-head ∙ ap (λ (x : List ℕ). getD x k 0) (head-back (segmentsIn t) h)
 
-  pub image-length : length (imageOf form1 t) ≡ imageLength form1
+  pub image-length : length (imageOf served t) ≡ imageLength served
   unfolding imageOf
   image-length =
-      length-append (headImage form1 (segmentsIn t)) (joined (tab places (recordImage form1 t)))
-      ∙ (λ j. head-length (segmentsIn t) j + pieces-length (recordImage form1 t) 14 (record-image-length t) places j)
+      length-append (headImage served (segmentsIn t)) (joined (tab places (recordImage served t)))
+      ∙ (λ j. head-length (segmentsIn t) j + pieces-length (recordImage served t) 14 (record-image-length t) places j)
 
-  image-piece : (p : ℕ) → p < places → part (imageOf form1 t) (1 + 14 * p) 14 ≡ recordImage form1 t p
+  image-piece : (p : ℕ) → p < places → part (imageOf served t) (1 + 14 * p) 14 ≡ recordImage served t p
   unfolding imageOf
   image-piece p lp =
-      let h : List ℕ = headImage form1 (segmentsIn t) in
-      let rs : List ℕ = joined (tab places (recordImage form1 t)) in
+      let h : List ℕ = headImage served (segmentsIn t) in
+      let rs : List ℕ = joined (tab places (recordImage served t)) in
       (λ j. part (h ++ sym (append-nil rs) j) (sym (head-length (segmentsIn t)) j + 14 * p) 14)
-      ∙ piece-at (recordImage form1 t) 14 (record-image-length t) h [] places p lp
+      ∙ piece-at (recordImage served t) 14 (record-image-length t) h [] places p lp
 
   module _ (long : length t ≡ tablesLength) (few : segmentsIn t < 2048) (fits : (p : ℕ) → p < places → Fits (part t (recordBase p) recordLength)) where
-    record-again : (p : ℕ) → p < places → recordFrom form1 (imageOf form1 t) p ≡ part t (recordBase p) recordLength
+    record-again : (p : ℕ) → p < places → recordFrom served (imageOf served t) p ≡ part t (recordBase p) recordLength
     unfolding recordFrom recordImage
     record-again p lp =
         let l : length (part t (recordBase p) recordLength) ≡ recordLength = length-part t (recordBase p) recordLength (omega arith) in
         ap (λ (x : List ℕ). unpacked recordWidths (rowOf x)) (image-piece p lp)
         ∙ packed-back recordWidths 14 record-sum (part t (recordBase p) recordLength) (l ∙ sym record-many) (λ k h. fits p lp k (omega (arith, h, record-many)))
 
-    pub tables-again : tablesFrom form1 (imageOf form1 t) ≡ closed t
+    pub tables-again : tablesFrom served (imageOf served t) ≡ closed t
     unfolding tablesFrom closed
     tables-again =
-        let rs : joined (tab places (recordFrom form1 (imageOf form1 t))) ≡ part t recordsStart (openingsStart - 1) =
-        ap joined (tab-cong places (λ p. part t (recordBase p) recordLength) (recordFrom form1 (imageOf form1 t)) record-again) ∙ pieces-part t recordsStart recordLength places in
+        let rs : joined (tab places (recordFrom served (imageOf served t))) ≡ part t recordsStart (openingsStart - 1) =
+        ap joined (tab-cong places (λ p. part t (recordBase p) recordLength) (recordFrom served (imageOf served t)) record-again) ∙ pieces-part t recordsStart recordLength places in
         (λ j. noneOpen (image-field few 1 j ∷ rs j)) ∙ ap noneOpen (first-more t (openingsStart - 1) (omega arith))
 
 -- ---- the tables of an image
 
-module _ (img : List ℕ) (cells : Cells img) (long : length img ≡ imageLength form1) where
-  piece-again : (p : ℕ) → p < places → recordImage form1 (tablesFrom form1 img) p ≡ part img (1 + 14 * p) 14
+module _ (img : List ℕ) (cells : Cells img) (long : length img ≡ imageLength served) where
+  piece-again : (p : ℕ) → p < places → recordImage served (tablesFrom served img) p ≡ part img (1 + 14 * p) 14
   unfolding recordImage tablesFrom recordFrom
   piece-again p lp =
-      ap (λ (x : List ℕ). cellsOf 14 (packed recordWidths x)) (piece-at (recordFrom form1 img) 50 (record-from-length img) (headField img 1 ∷ []) (replicate (tablesLength - openingsStart) 0) places p lp)
+      ap (λ (x : List ℕ). cellsOf 14 (packed recordWidths x)) (piece-at (recordFrom served img) 50 (record-from-length img) (headField img 1 ∷ []) (replicate (tablesLength - openingsStart) 0) places p lp)
       ∙ cells-back recordWidths 14 record-sum (part img (1 + 14 * p) 14) (part-cells img (1 + 14 * p) 14 cells) (length-part img (1 + 14 * p) 14 (omega arith))
 
-  head-again : headField img 0 ≡ 1 → headField img 2 ≡ 0 → headImage form1 (headField img 1) ≡ part img 0 1
+  head-again : headField img 0 ≡ 1 → headField img 2 ≡ 0 → headImage served (headField img 1) ≡ part img 0 1
   unfolding headImage headField
   head-again form zeros =
       let xs : List ℕ = unpacked headWidths (rowOf (part img 0 1)) in
       ap (λ (x : List ℕ). cellsOf 1 (packed headWidths x)) (three xs (unpacked-length headWidths (rowOf (part img 0 1)) ∙ head-many) form zeros)
       ∙ cells-back headWidths 1 head-sum (part img 0 1) (part-cells img 0 1 cells) (length-part img 0 1 (omega arith))
 
-  pub image-again : headField img 0 ≡ 1 → headField img 2 ≡ 0 → imageOf form1 (tablesFrom form1 img) ≡ img
+  pub image-again : headField img 0 ≡ 1 → headField img 2 ≡ 0 → imageOf served (tablesFrom served img) ≡ img
   unfolding imageOf tablesFrom part
   image-again form zeros =
-      let t : List ℕ = tablesFrom form1 img in
-      let rs : joined (tab places (recordImage form1 t)) ≡ part img 1 (imageLength form1 - 1) =
-      ap joined (tab-cong places (λ p. part img (1 + 14 * p) 14) (recordImage form1 t) piece-again) ∙ pieces-part img 1 14 places in
-      (λ j. head-again form zeros j ++ rs j) ∙ sym (take-add 1 (imageLength form1 - 1) img) ∙ take-all (imageLength form1) img (omega arith)
+      let t : List ℕ = tablesFrom served img in
+      let rs : joined (tab places (recordImage served t)) ≡ part img 1 (imageLength served - 1) =
+      ap joined (tab-cong places (λ p. part img (1 + 14 * p) 14) (recordImage served t) piece-again) ∙ pieces-part img 1 14 places in
+      (λ j. head-again form zeros j ++ rs j) ∙ sym (take-add 1 (imageLength served - 1) img) ∙ take-all (imageLength served) img (omega arith)

@@ -10,7 +10,7 @@ use Rattle.placing.specs.Sizes.{tablesLength}
 use Rattle.rules.specs.House.{closedDown}
 use Rattle.tables.specs.Sound.{soundb}
 use Rattle.tables.specs.laws.Sound.{ranged-of}
-use Rattle.image.specs.Image.{form1, imageLength, imageOf, tablesFrom, imageb}
+use Rattle.image.specs.Image.{served, imageLength, imageOf, tablesFrom, imageb}
 use Rattle.cells.specs.Outcomes.{Lent, lent, loadOut, Saved, saved, saveOut}
 use Rattle.cells.specs.Says.{houseOf}
 use Rattle.packing_rows.specs.Cells.{Cells}
@@ -28,11 +28,11 @@ closed-view : (s t : List ℕ) → length t ≡ tablesLength → view s (closed 
 unfolding view
 closed-view s t long = ap (λ (h : SegmentHouse). model (length s) (viewHouse s h)) (closed-says t long)
 
-loaded-again : (s t buffer tables : List ℕ) → soundb (length s) t ≡ true → length buffer ≡ imageLength form1 → length tables ≡ tablesLength
+loaded-again : (s t buffer tables : List ℕ) → soundb (length s) t ≡ true → length buffer ≡ imageLength served → length tables ≡ tablesLength
     → loadOut s tables (saveOut s t buffer .after .image) ≡ outcomeOf (done 0) (lent s (closed t))
 loaded-again s t buffer tables ok lb lt =
     ap (λ (o : Outcome Saved). loadOut s tables (o .after .image)) (save-done s t buffer ok lb)
-    ∙ load-done s tables (imageOf form1 t) lt (saved-sound (length s) t ok)
+    ∙ load-done s tables (imageOf served t) lt (saved-sound (length s) t ok)
     ∙ ap (λ (x : List ℕ). outcomeOf (done 0) (lent s x)) (saved-again (length s) t ok)
 
 pub save-then-load : SaveThenLoad
@@ -43,17 +43,17 @@ save-then-load x buffer tables ok lb lt =
     let e = loaded-again s t buffer tables ok lb lt in
     (e, ap (λ (o : Outcome Lent). viewOn (o .after)) e ∙ closed-view s t (ranged-of (length s) t ok .0))
 
-saved-image : (s img buffer : List ℕ) → Cells img → imageb form1 (length s) img ≡ true → length buffer ≡ imageLength form1
-    → saveOut s (tablesFrom form1 img) buffer ≡ outcomeOf (done 0) (saved s (tablesFrom form1 img) img)
+saved-image : (s img buffer : List ℕ) → Cells img → imageb served (length s) img ≡ true → length buffer ≡ imageLength served
+    → saveOut s (tablesFrom served img) buffer ≡ outcomeOf (done 0) (saved s (tablesFrom served img) img)
 saved-image s img buffer cells ok lb =
     let f = imageb-facts (length s) img ok in
-    save-done s (tablesFrom form1 img) buffer (f .sound) lb
-    ∙ ap (λ (i : List ℕ). outcomeOf (done 0) (saved s (tablesFrom form1 img) i)) (image-again img cells (f .long) (f .form) (f .zeros))
+    save-done s (tablesFrom served img) buffer (f .sound) lb
+    ∙ ap (λ (i : List ℕ). outcomeOf (done 0) (saved s (tablesFrom served img) i)) (image-again img cells (f .long) (f .form) (f .zeros))
 
 pub load-then-save : LoadThenSave
 load-then-save x img buffer cells lt ok lb =
     let s = x .store in
-    let u = tablesFrom form1 img in
+    let u = tablesFrom served img in
     let e : loadOut s (x .tables) img ≡ outcomeOf (done 0) (lent s u) = load-done s (x .tables) img lt ok in
     ap (λ (o : Outcome Lent). saveOut (o .after .store) (o .after .tables) buffer) e
     ∙ saved-image s img buffer cells ok lb

@@ -6,7 +6,7 @@ use denote.Ref.{now}
 use native.Mathlib.Omega.{arith}
 use lib.ListN.{length}
 use Rattle.packing.specs.Packing.{packed, cellsOf}
-use Rattle.image.specs.Image.{form1, imageLength, recordWidths, recordImage}
+use Rattle.image.specs.Image.{served, imageLength, recordWidths, recordImage}
 use Rattle.image_code.specs.Fits.{Writable, records-writable}
 use Rattle.image_code.specs.Lengths.{record-image-length}
 use Rattle.image_code.proofs.Turns.{mid-part, mid-is, placed, none-placed, one-placed, all-placed, image-full}
@@ -15,7 +15,7 @@ use Rattle.image_code.proofs.put_records.Statement.{statement}
 use Rattle.image_code.proofs.put_records.Tie as tie
 
 abbrev Inv-loop : tie.InvT-loop
-Inv-loop tables image₀ p₀ image p = (p ≤ 64) × (length image ≡ length image₀) × (image ≡ placed (recordImage form1 tables) 14 (record-image-length tables) image₀ p)
+Inv-loop tables image₀ p₀ image p = (p ≤ 64) × (length image ≡ length image₀) × (image ≡ placed (recordImage served tables) 14 (record-image-length tables) image₀ p)
 
 abbrev μ-loop : tie.MeasureT-loop
 μ-loop tables image₀ p₀ image p = 64 - p
@@ -23,7 +23,7 @@ abbrev μ-loop : tie.MeasureT-loop
 loop-holds : tie.Need-loop-holds Inv-loop μ-loop
 loop-holds c =
     let a = c .before .before .args in
-    (omega arith, refl, none-placed (recordImage form1 (now (a .tables))) 14 (record-image-length (now (a .tables))) (now (a .image)) refl)
+    (omega arith, refl, none-placed (recordImage served (now (a .tables))) 14 (record-image-length (now (a .tables))) (now (a .image)) refl)
 
 mul-put-record : tie.Need-mul-put-record Inv-loop μ-loop
 mul-put-record c = search needs
@@ -98,7 +98,7 @@ loop-again c =
     let t = now (s .args .tables) in
     let l = c .before .before .before .before .before .before .loop in
     let f = c .before .before .put-record in
-    (omega arith, c .before .image .given .1 ∙ l .inv .1, one-placed (recordImage form1 t) 14 (record-image-length t) (now (s .args .image)) (l .image) (f .last .1 .0) (l .p) (15 + 14 * l .p) (omega arith) (omega arith) (omega arith) (l .inv .2) (f .ensures ∙ ap (λ (r : List ℕ). cellsOf 14 (packed recordWidths r)) (mid-is (1 + 50 * l .p) (51 + 50 * l .p) 50 t (omega arith))))
+    (omega arith, c .before .image .given .1 ∙ l .inv .1, one-placed (recordImage served t) 14 (record-image-length t) (now (s .args .image)) (l .image) (f .last .1 .0) (l .p) (15 + 14 * l .p) (omega arith) (omega arith) (omega arith) (l .inv .2) (f .ensures ∙ ap (λ (r : List ℕ). cellsOf 14 (packed recordWidths r)) (mid-is (1 + 50 * l .p) (51 + 50 * l .p) 50 t (omega arith))))
 
 same-length : tie.Need-same-length Inv-loop μ-loop
 same-length c = search needs
@@ -107,7 +107,7 @@ returns : tie.Need-returns Inv-loop μ-loop
 returns c =
     let s = c .before .before .before .before in
     let l = c .before .loop in
-    image-full (now (s .args .image)) _ (l .image) (s .pre .1) (all-placed (recordImage form1 (now (s .args .tables))) 14 (record-image-length (now (s .args .tables))) (now (s .args .image)) (l .image) (l .p) (imageLength form1) (omega arith) refl (l .inv .2))
+    image-full (now (s .args .image)) _ (l .image) (s .pre .1) (all-placed (recordImage served (now (s .args .tables))) 14 (record-image-length (now (s .args .tables))) (now (s .args .image)) (l .image) (l .p) (imageLength served) (omega arith) refl (l .inv .2))
 
 pub put-records-spec : {M : Type 1} → statement M
 put-records-spec =
