@@ -1,4 +1,3 @@
 -- Laws that the proofs of the code share. Assumes nothing.
 pub mod Cells
-pub mod Counts
 pub mod Marks

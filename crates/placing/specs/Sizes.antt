@@ -68,12 +68,9 @@ widthOf s = getD (1 ∷ 2 ∷ 4 ∷ 8 ∷ 16 ∷ 32 ∷ 16 ∷ []) s 0
 unfoldable pub elementsOf : (species : ℕ) → ℕ
 elementsOf s = getD (2048 ∷ 1024 ∷ 512 ∷ 256 ∷ 128 ∷ 64 ∷ 128 ∷ []) s 0
 
--- 64 at the least, and so the stretches up to the greatest end are below this number
+-- 64 at the least
 abbrev pub leastElements : ℕ
 leastElements = 64
-
-abbrev pub mostStretches : ℕ
-mostStretches = (greatestEnd - 1) / leastElements + 1
 
 -- "Names have at most 12 symbols."
 abbrev pub nameSymbols : ℕ

@@ -79,11 +79,6 @@ pub const GREATEST_END: u32 = 16777215;
 // "A file holds at most 32 segments."
 pub const MOST_HELD: u32 = 32;
 
-// A segment has 64 elements or more, and so the stretches up to the greatest end are below this number.
-pub const LEAST_ELEMENTS: u32 = 64;
-
-pub const MOST_STRETCHES: u32 = (GREATEST_END - 1) / LEAST_ELEMENTS + 1;
-
 // The number of a segment of the store.
 pub struct Segment(u32);
 

@@ -1,135 +1,126 @@
--- One more mark: what the marks remember after it, or what they remembered that forbids it. Assumes nothing.
-use Prim.Native.Nat.{ℕ, _+_, _≤_, _<_}
-use mathlib.Core.Path.{_≡_, refl, sym, ap, subst, subst₂, _∙_}
-use mathlib.Core.Logic.{_⊎_, inl, inr, ⊎-elim}
-use mathlib.Core.Bool.{Bool, true, false, cond, _||_}
+-- One more mark, and how many stand then. Assumes nothing.
+use Prim.Native.Nat.{ℕ, zero, suc, _+_, _*_, _≤_, _<_}
+use mathlib.Core.Path.{_≡_, refl, sym, ap, subst, _∙_}
+use mathlib.Core.Logic.{_≢_, ⊎-elim}
+use mathlib.Core.Bool.{Bool, true, false, not, cond}
 use mathlib.Core.List.{List}
-use native.Mathlib.Decide.{ℕ-discrete}
 use native.Mathlib.Numerals.{add-one}
 use native.Mathlib.Omega.{arith}
 use lib.Dec.{eqb}
-use lib.ListN.{length, getD, set, length-set}
+use lib.ListN.{length, set, replicate}
 use lib.Seq.{getD-set-same, getD-set-other}
-use borrow.Author.Tests.{eqb-true, eqb-false, eq-eqb, ne-eqb}
-use Rattle.combine.specs.laws.Below.{not-both, all-zero, all-more, loop-true, loop-false}
-use Rattle.placing.specs.declared.Segment.{Segment}
-use Rattle.placing.specs.Placing.{segment}
+use Rattle.combine.specs.Below.{countBelow}
+use Rattle.combine.specs.laws.Below.{count-cong, count-le, split-bool}
+use Rattle.combine.specs.laws.Counts.{count-start, count-join, count-none, count-one-more}
+use Rattle.combine.specs.laws.Numbers.{eq-or-ne}
+use Rattle.combine.specs.laws.Replaced.{replicate-at}
 use Rattle.placing.specs.Sizes.{mostSegments}
-use Rattle.sound_lists.specs.Marks.{mayMark, markTo, markAll, mayMarkAll, cellsFrom, Marked, Remembers}
+use Rattle.sound_lists.specs.Marks.{isMarked, partLength, standing, markThose, Marked}
 
--- ---- one segment
-pub cell-number : (t : List ℕ) (a k : ℕ) (g : Segment) → g ≡ segment (getD t (a + k) 0) → g .0 ≡ cellsFrom t a k
-unfolding cellsFrom
-cell-number t a k g e = ap (λ (x : Segment). x .0) e
+-- segment s gets its mark
+module _ (m : List ℕ) (s : ℕ) (long : length m ≡ mostSegments) (low : s < mostSegments) where
+  pub marked-here : isMarked (set m s 1) s ≡ true
+  unfolding isMarked
+  marked-here = ap (λ (x : ℕ). not (eqb x 0)) (getD-set-same m s 1 0 (omega arith))
 
-module _ (m : List ℕ) (s v n : ℕ) (e : n ≡ s) where
-  pub mark-fresh : getD m n 0 ≡ 0 → (true ≡ mayMark m s v) × (set m n v ≡ markTo m s v)
-  unfolding mayMark markTo
-  mark-fresh z =
-      let z′ : eqb (getD m s 0) 0 ≡ true = eq-eqb (getD m s 0) 0 (ap (λ (x : ℕ). getD m x 0) (sym e) ∙ z) in
-      (rw z′, rw z′ (ap (λ (x : ℕ). set m x v) e))
+  pub marked-other : (g : ℕ) → g ≢ s → isMarked (set m s 1) g ≡ isMarked m g
+  unfolding isMarked
+  marked-other g d = ap (λ (x : ℕ). not (eqb x 0)) (getD-set-other m s g 1 0 d)
 
-  pub mark-again : (getD m n 0 ≡ 0 → ⊥) → (eqb (getD m n 0) v ≡ mayMark m s v) × (m ≡ markTo m s v)
-  unfolding mayMark markTo
-  mark-again d =
-      let d′ : eqb (getD m s 0) 0 ≡ false = ne-eqb (getD m s 0) 0 (λ z. d (ap (λ (x : ℕ). getD m x 0) e ∙ z)) in
-      (rw d′ (ap (λ (x : ℕ). eqb (getD m x 0) v) e), rw d′)
+  -- what was marked stays so
+  pub marked-still : (g : ℕ) → isMarked m g ≡ true → isMarked (set m s 1) g ≡ true
+  marked-still g h = ⊎-elim (λ e. ap (isMarked (set m s 1)) e ∙ marked-here) (λ d. marked-other g d ∙ h) (eq-or-ne g s)
 
--- ---- segments one after the other: a turn of the loop
-module _ (m : List ℕ) (f : ℕ → ℕ) (v : ℕ) where
-  pub record Marking (k : ℕ) (now : List ℕ) : Type 0 where
-    pub passed : mayMarkAll m f v k ≡ true
-    pub marks : now ≡ markAll m f v k
+  pub one-more : isMarked m s ≡ false → standing (set m s 1) ≡ standing m + 1
+  unfolding standing
+  one-more h = count-one-more mostSegments s (isMarked m) (isMarked (set m s 1)) low h marked-here marked-other
 
-  pub marking-none : Marking 0 m
-  unfolding mayMarkAll markAll
-  marking-none = record { passed = all-zero _; marks = refl }
-
-  module _ (k s : ℕ) (now : List ℕ) (h : Marking k now) (e : s ≡ f k) where
-    here : mayMark now s (v + k) ≡ mayMark (markAll m f v k) (f k) (v + k)
-    here = λ i. mayMark (h .marks i) (e i) (v + k)
-
-    pub marking-more : (after : List ℕ) → mayMark now s (v + k) ≡ true → after ≡ markTo now s (v + k) → Marking (k + 1) after
-    unfolding mayMarkAll markAll
-    marking-more after ok a =
-        record { passed = all-more _ k (h .passed) (sym here ∙ ok); marks = a ∙ (λ i. markTo (h .marks i) (e i) (v + k)) ∙ rw add-one }
-
-    pub marking-stops : (n : ℕ) (after : List ℕ) → k < n → mayMark now s (v + k) ≡ false → Marked m f v n after false
-    unfolding mayMarkAll
-    marking-stops n after l bad = record { answer = loop-false _ n k l (sym here ∙ bad); left = λ w. absurd (not-both w refl) }
-
-  pub marking-ends : (n k : ℕ) (now : List ℕ) → Marking k now → k ≤ n → n ≤ k → Marked m f v n now true
-  unfolding mayMarkAll
-  marking-ends n k now h l l′ =
-      let e : k ≡ n = omega arith in
-      record { answer = loop-true _ n k l l′ (h .passed); left = λ _. h .marks ∙ ap (markAll m f v) e }
-
--- the first mark and the number of segments, as the sums have them
-pub marked-as : (m : List ℕ) (f : ℕ → ℕ) (v x y n k : ℕ) (after : List ℕ) (r : Bool) → x ≡ y → n ≡ k → Marked m f (v + x) n after r → Marked m f (v + y) k after r
-marked-as m f v x y n k after r e d h = subst₂ (λ (a b : ℕ). Marked m f (v + a) b after r) e d h
-
--- ---- what the marks remember
--- no more than one mark
-pub one-mark : {P : ℕ → ℕ → Type 0} {m : List ℕ} → Remembers P m → (s v w : ℕ) → P s v → P s w → v ≡ w
-one-mark h s v w p q = sym (h .listed s v p) ∙ h .listed s w q
-
--- the same listings, said in another way
-pub remembers-as : {P Q : ℕ → ℕ → Type 0} {m : List ℕ} → ((s v : ℕ) → P s v → Q s v) → ((s v : ℕ) → Q s v → P s v) → Remembers P m → Remembers Q m
-remembers-as f g h = record { long = h .long; listed = λ s v q. h .listed s v (g s v q); marked = λ s n. f s _ (h .marked s n) }
-
-pub remembers-none : {P : ℕ → ℕ → Type 0} → ((s v : ℕ) → P s v → ⊥) → (m : List ℕ) → length m ≡ mostSegments → ((s : ℕ) → getD m s 0 ≡ 0) → Remembers P m
-remembers-none f m l z = record { long = l; listed = λ s v p. absurd (f s v p); marked = λ s n. absurd (n (z s)) }
-
--- what P lists, and s with v
-abbrev pub Plus : (ℕ → ℕ → Type 0) → ℕ → ℕ → ℕ → ℕ → Type 0
-Plus P s v s′ v′ = P s′ v′ ⊎ ((s′ ≡ s) × (v′ ≡ v))
-
-module _ {P : ℕ → ℕ → Type 0} (m : List ℕ) (s v : ℕ) (h : Remembers P m) (pos : (s′ v′ : ℕ) → P s′ v′ → 0 < v′) (inside : s < mostSegments) where
-  -- a segment that was not listed
-  fresh : getD m s 0 ≡ 0 → Remembers (Plus P s v) (set m s v)
-  fresh z =
-      record {
-        long = length-set m s v ∙ h .long;
-        listed = λ s′ v′ p. ⊎-elim (λ q. old s′ v′ q) (λ e. ap (λ (x : ℕ). getD (set m s v) x 0) (e .0) ∙ here ∙ sym (e .1)) p;
-        marked = λ s′ n. named s′ n (ℕ-discrete s′ s);
-      }
+  pub none-more : isMarked m s ≡ true → standing (set m s 1) ≡ standing m
+  unfolding standing
+  none-more h = count-cong (isMarked (set m s 1)) (isMarked m) mostSegments (λ g _. same g)
     where
-      here : getD (set m s v) s 0 ≡ v
-      here = getD-set-same m s v 0 (omega (arith, h .long))
+      same : (g : ℕ) → isMarked (set m s 1) g ≡ isMarked m g
+      same g = ⊎-elim (λ e. ap (isMarked (set m s 1)) e ∙ marked-here ∙ sym h ∙ ap (isMarked m) (sym e)) (marked-other g) (eq-or-ne g s)
 
-      differs : (s′ v′ : ℕ) → P s′ v′ → s′ ≡ s → ⊥
-      differs s′ v′ q e = omega (arith, pos s′ v′ q, h .listed s′ v′ q, ap (λ (x : ℕ). getD m x 0) e)
+  pub at-most-one-more : standing (set m s 1) ≤ standing m + 1
+  at-most-one-more = ⊎-elim (λ h. omega (arith, none-more h)) (λ h. omega (arith, one-more h)) (split-bool (isMarked m s))
 
-      old : (s′ v′ : ℕ) → P s′ v′ → getD (set m s v) s′ 0 ≡ v′
-      old s′ v′ q = getD-set-other m s s′ v 0 (differs s′ v′ q) ∙ h .listed s′ v′ q
+-- at first nothing is marked
+pub unmarked : (s : ℕ) → isMarked (replicate mostSegments 0) s ≡ false
+unfolding isMarked
+unmarked s = ap (λ (x : ℕ). not (eqb x 0)) (replicate-at mostSegments s 0)
 
-      named : (s′ : ℕ) → (getD (set m s v) s′ 0 ≡ 0 → ⊥) → Dec (s′ ≡ s) → Plus P s v s′ (getD (set m s v) s′ 0)
-      named s′ n (yes e) = inr (e, ap (λ (x : ℕ). getD (set m s v) x 0) e ∙ here)
-      named s′ n (no d) =
-          let o : getD (set m s v) s′ 0 ≡ getD m s′ 0 = getD-set-other m s s′ v 0 d in
-          inl (subst (λ (x : ℕ). P s′ x) (sym o) (h .marked s′ (λ z′. n (o ∙ z′))))
+pub none-stands : standing (replicate mostSegments 0) ≡ 0
+unfolding standing
+none-stands = count-none mostSegments (isMarked (replicate mostSegments 0)) (λ s _. unmarked s)
 
-  -- a segment that was listed with this mark
-  again : getD m s 0 ≡ v → Remembers (Plus P s v) m
-  again e =
-      record {
-        long = h .long;
-        listed = λ s′ v′ p. ⊎-elim (λ q. h .listed s′ v′ q) (λ d. ap (λ (x : ℕ). getD m x 0) (d .0) ∙ e ∙ sym (d .1)) p;
-        marked = λ s′ n. inl (h .marked s′ n);
-      }
+-- one part more is counted
+pub part-more : (m : List ℕ) (part c r : ℕ) → c ≡ countBelow (partLength * part) (isMarked m) → r ≡ countBelow partLength (λ k. isMarked m (partLength * part + k))
+    → c + r ≡ countBelow (partLength * (part + 1)) (isMarked m)
+part-more m part c r e d =
+    let n : partLength * (part + 1) ≡ partLength * part + partLength = omega arith in
+    (λ i. e i + d i) ∙ sym (ap (λ (k : ℕ). countBelow k (isMarked m)) n ∙ count-join (partLength * part) partLength (isMarked m))
 
-  pub mark-good : mayMark m s v ≡ true → Remembers (Plus P s v) (markTo m s v)
-  unfolding mayMark markTo
-  mark-good ok = go (eqb (getD m s 0) 0) refl ok
+-- ---- marks one after the other
+module _ (test : ℕ → Bool) (f : ℕ → ℕ) (m : List ℕ) where
+  pub marked-none : Marked test f m 0 m 0
+  unfolding markThose
+  marked-none = record { after = refl; set = count-start test }
+
+  -- segment s is the next, and is marked if b
+  pub marked-more : (n : ℕ) (now after : List ℕ) (c d s : ℕ) (b : Bool) → Marked test f m n now c → Marked (λ k. b) (λ k. s) now 1 after d → b ≡ test n → s ≡ f n
+      → Marked test f m (n + 1) after (c + d)
+  unfolding markThose countBelow
+  marked-more n now after c d s b h g eb es =
+      let e : after ≡ cond (test n) (set (markThose test f m n) (f n) 1) (markThose test f m n) =
+      g .after ∙ (λ i. cond (eb i) (set (h .after i) (es i) 1) (h .after i)) in
+      let sum : c + d ≡ cond (test n) (countBelow n test + 1) (countBelow n test) = counted (test n) (g .set ∙ ap (λ (x : Bool). cond x 1 0) eb) in
+      record { after = rw add-one e; set = rw add-one sum }
     where
-      go : (b : Bool) → eqb (getD m s 0) 0 ≡ b → (b || eqb (getD m s 0) v) ≡ true → Remembers (Plus P s v) (cond b (set m s v) m)
-      go true e o = fresh (eqb-true (getD m s 0) 0 e)
-      go false e o = again (eqb-true (getD m s 0) v o)
+      counted : (x : Bool) → d ≡ cond x 1 0 → c + d ≡ cond x (countBelow n test + 1) (countBelow n test)
+      counted true e = omega (arith, h .set)
+      counted false e = omega (arith, h .set)
 
-  pub mark-bad : mayMark m s v ≡ false → (w : ℕ) × P s w × (w ≡ v → ⊥)
-  unfolding mayMark
-  mark-bad bad = go (eqb (getD m s 0) 0) refl bad
-    where
-      go : (b : Bool) → eqb (getD m s 0) 0 ≡ b → (b || eqb (getD m s 0) v) ≡ false → (w : ℕ) × P s w × (w ≡ v → ⊥)
-      go true e o = absurd (not-both refl o)
-      go false e o = (getD m s 0, h .marked s (eqb-false (getD m s 0) 0 e), eqb-false (getD m s 0) v o)
+  pub marked-end : (n k : ℕ) (now : List ℕ) (c : ℕ) → k ≡ n → Marked test f m k now c → Marked test f m n now c
+  marked-end n k now c e h = subst (λ (x : ℕ). Marked test f m x now c) e h
+
+-- all of them are marked
+module _ (f : ℕ → ℕ) (m : List ℕ) where
+  pub all-none : m ≡ markThose (λ k. true) f m 0
+  unfolding markThose
+  all-none = refl
+
+  pub all-more : (n : ℕ) (now : List ℕ) → now ≡ markThose (λ k. true) f m n → set now (f n) 1 ≡ markThose (λ k. true) f m (n + 1)
+  unfolding markThose
+  all-more n now e = ap (λ (x : List ℕ). set x (f n) 1) e ∙ rw add-one
+
+  pub all-marked : (n k : ℕ) (now : List ℕ) → k ≡ n → now ≡ markThose (λ k. true) f m k → now ≡ markThose (λ k. true) f m n
+  all-marked n k now q e = e ∙ ap (markThose (λ k. true) f m) q
+
+-- by another name of each
+pub all-same : (f g : ℕ → ℕ) (m : List ℕ) (n : ℕ) → ((k : ℕ) → k < n → f k ≡ g k) → markThose (λ k. true) f m n ≡ markThose (λ k. true) g m n
+unfolding markThose
+all-same f g m zero e = refl
+all-same f g m (suc n) e = λ i. set (all-same f g m n (λ k l. e k (omega arith)) i) (e n (omega arith) i) 1
+
+-- none is
+pub none-marked : (f : ℕ → ℕ) (m : List ℕ) (n : ℕ) → Marked (λ k. false) f m n m 0
+unfolding markThose
+none-marked f m n = record { after = sym (same n); set = sym (count-none n (λ k. false) (λ k l. refl)) }
+  where
+    same : (k : ℕ) → markThose (λ k. false) f m k ≡ m
+    same zero = refl
+    same (suc k) = same k
+
+-- one segment
+pub few-one : (test : ℕ → Bool) (f : ℕ → ℕ) (m m′ : List ℕ) (c : ℕ) → Marked test f m 1 m′ c → c ≤ 1
+few-one test f m m′ c h = omega (arith, h .set, count-le test 1)
+
+module _ (m : List ℕ) (s : ℕ) (shared : Bool) where
+  pub one-shared : shared ≡ true → Marked (λ k. not shared) (λ k. s) m 1 m 0
+  unfolding markThose countBelow
+  one-shared e = record { after = rw e; set = rw e }
+
+  pub one-own : shared ≡ false → Marked (λ k. not shared) (λ k. s) m 1 (set m s 1) 1
+  unfolding markThose countBelow
+  one-own e = record { after = rw e; set = rw e }

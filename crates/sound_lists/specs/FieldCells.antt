@@ -55,6 +55,10 @@ module _ (t : List ℕ) (i : ℕ) where
   unfolding openingAt openingOf
   place-cell = getD-part t (openingBase i) 56 1 (omega arith)
 
+  pub permit-cell : openingAt t i .permit ≡ getD t (openingBase i + 2) 0
+  unfolding openingAt openingOf
+  permit-cell = getD-part t (openingBase i) 56 2 (omega arith)
+
   pub opening-species-cell : openingAt t i .species ≡ getD t (openingBase i + 3) 0
   unfolding openingAt openingOf
   opening-species-cell = getD-part t (openingBase i) 56 3 (omega arith)

@@ -3,6 +3,7 @@ pub mod FieldCells
 pub mod ListCells
 pub mod ListFacts
 pub mod Marks
-pub mod Files
-pub mod Seen
+pub mod Rows
+pub mod Shared
+pub mod Passed
 pub mod DistinctBy

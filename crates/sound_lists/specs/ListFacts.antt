@@ -6,11 +6,10 @@ use mathlib.Core.List.{List}
 use native.Mathlib.Omega.{arith}
 use lib.ListN.{getD}
 use Rattle.combine.specs.laws.Numbers.{le-or-lt, eq-or-ne}
-use Rattle.placing.specs.Sizes.{places, entries, mostHeld, mostStretches, lists}
+use Rattle.placing.specs.Sizes.{places, entries, mostHeld, lists}
 use Rattle.tables.specs.Layout.{recordBase, openingBase, segmentsIn, recordAt, openingAt}
-use Rattle.tables.specs.Lists.{heldIn, listed, stretchIn, familyOf}
+use Rattle.tables.specs.Lists.{heldIn, listed, familyOf}
 use Rattle.tables.specs.laws.Sound.{Ranged}
-use Rattle.tables.specs.laws.ExtentFacts.{stretch-small}
 use Rattle.tables.specs.laws.RecordFacts.{SoundRecord, record-holds, record-not-unused}
 use Rattle.tables.specs.laws.OpeningFacts.{SoundOpening, opening-holds, opening-not-closed, closed-place}
 use Rattle.sound_lists.specs.FieldCells.{used-cell, opened-cell}
@@ -22,13 +21,11 @@ pub record ListFacts (t : List ℕ) (i : ℕ) : Type 0 where
   -- "all places and segment numbers are in range"
   pub number : (k : ℕ) → k < heldIn t i → listed t i k < segmentsIn t
   pub family : familyOf t i < lists
-  -- a stretch is below 2 ^ 18
-  pub stretch : (k : ℕ) → k < heldIn t i → stretchIn t i k < mostStretches
 
 -- a list that holds nothing
 none-held : (t : List ℕ) (i : ℕ) → heldIn t i ≡ 0 → familyOf t i < lists → ListFacts t i
 none-held t i z f =
-    record { held = omega arith; number = λ k l. absurd (let y : ⊥ = omega arith in y); family = f; stretch = λ k l. absurd (let y : ⊥ = omega arith in y) }
+    record { held = omega arith; number = λ k l. absurd (let y : ⊥ = omega arith in y); family = f }
 
 module _ (t : List ℕ) (ok : Ranged t) where
   -- a record and an opening that are not unused, by their first cells
@@ -46,7 +43,6 @@ module _ (t : List ℕ) (ok : Ranged t) where
         held = omega (arith, f .extent .held);
         number = λ k l. let m = f .list .inRange k (omega arith) in omega (arith, list.record-number t p lp k);
         family = omega (arith, list.record-family t p lp);
-        stretch = λ k l. let m = stretch-small _ _ _ (f .extent) k (omega arith) in omega (arith, list.record-stretch t p lp k);
       }
 
   opening-list : (j : ℕ) → j < entries → getD t (openingBase j) 0 ≢ 0 → ListFacts t (64 + j)
@@ -58,7 +54,6 @@ module _ (t : List ℕ) (ok : Ranged t) where
         number = λ k l. let m = f .list .inRange k (omega arith) in omega (arith, list.opening-number t j k);
         family =
             ⊎-elim (λ z. omega (arith, list.opening-family-none t j z)) (λ n. omega (arith, list.opening-family-some t j n, f .place)) (eq-or-ne (openingAt t j .place) 0);
-        stretch = λ k l. let m = stretch-small _ _ _ (f .extent) k (omega arith) in omega (arith, list.opening-stretch t j k);
       }
 
   record-facts-at : (p : ℕ) → p < places → ListFacts t p

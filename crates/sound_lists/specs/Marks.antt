@@ -1,40 +1,30 @@
--- Marks: a list m of 1,024 numbers that remembers, of each segment s, the one mark v with which it was listed, and 0 if it was not listed.
--- Assumes nothing.
-use Prim.Native.Nat.{ℕ, zero, suc, _+_}
+-- Marks: a list m of 1,024 numbers, one for each segment; a segment is marked where its number is not 0. Assumes nothing.
+use Prim.Native.Nat.{ℕ, zero, suc}
 use mathlib.Core.Path.{_≡_}
-use mathlib.Core.Bool.{Bool, true, cond, _||_}
+use mathlib.Core.Bool.{Bool, not, cond}
 use mathlib.Core.List.{List}
 use lib.Dec.{eqb}
-use lib.ListN.{length, getD, set}
-use Rattle.combine.specs.Below.{allBelow}
+use lib.ListN.{getD, set}
+use Rattle.combine.specs.Below.{countBelow}
 use Rattle.placing.specs.Sizes.{mostSegments}
 
--- whether segment s may be listed with the mark v, and the marks after it
-unfoldable pub mayMark : List ℕ → ℕ → ℕ → Bool
-mayMark m s v = eqb (getD m s 0) 0 || eqb (getD m s 0) v
+unfoldable pub isMarked : (marks : List ℕ) (segment : ℕ) → Bool
+isMarked m s = not (eqb (getD m s 0) 0)
 
-unfoldable pub markTo : List ℕ → ℕ → ℕ → List ℕ
-markTo m s v = cond (eqb (getD m s 0) 0) (set m s v) m
+-- how many marks stand
+unfoldable pub standing : (marks : List ℕ) → ℕ
+standing m = countBelow mostSegments (isMarked m)
 
--- the segments f 0, f 1, .. f (n - 1), listed with v, v + 1, ..
-unfoldable pub markAll : List ℕ → (ℕ → ℕ) → ℕ → ℕ → List ℕ
-markAll m f v zero = m
-markAll m f v (suc n) = markTo (markAll m f v n) (f n) (v + n)
+-- they are counted by parts of so many
+abbrev pub partLength : ℕ
+partLength = 128
 
-unfoldable pub mayMarkAll : List ℕ → (ℕ → ℕ) → ℕ → ℕ → Bool
-mayMarkAll m f v n = allBelow n (λ k. mayMark (markAll m f v k) (f k) (v + k))
+-- the marks after those of the segments f 0, f 1, .. f (n - 1) were set of which the test holds
+unfoldable pub markThose : (test : ℕ → Bool) (f : ℕ → ℕ) (marks : List ℕ) (n : ℕ) → List ℕ
+markThose test f m zero = m
+markThose test f m (suc n) = cond (test n) (set (markThose test f m n) (f n) 1) (markThose test f m n)
 
--- the numbers that stand in the cells t from a on
-unfoldable pub cellsFrom : List ℕ → ℕ → ℕ → ℕ
-cellsFrom t a k = getD t (a + k) 0
-
--- what is answered and left where they were marked one after the other
-pub record Marked (m : List ℕ) (f : ℕ → ℕ) (v n : ℕ) (after : List ℕ) (r : Bool) : Type 0 where
-  pub answer : r ≡ mayMarkAll m f v n
-  pub left : r ≡ true → after ≡ markAll m f v n
-
--- the marks m remember what was listed: P s v says that segment s was listed with the mark v
-pub record Remembers (P : ℕ → ℕ → Type 0) (m : List ℕ) : Type 0 where
-  pub long : length m ≡ mostSegments
-  pub listed : (s v : ℕ) → P s v → getD m s 0 ≡ v
-  pub marked : (s : ℕ) → (getD m s 0 ≡ 0 → ⊥) → P s (getD m s 0)
+-- the marks m′ after that, and how many were set
+pub record Marked (test : ℕ → Bool) (f : ℕ → ℕ) (m : List ℕ) (n : ℕ) (m′ : List ℕ) (c : ℕ) : Type 0 where
+  pub after : m′ ≡ markThose test f m n
+  pub set : c ≡ countBelow n test

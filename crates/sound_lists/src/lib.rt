@@ -1,181 +1,132 @@
-// Whether the segments in all lists are distinct: one pass over the lists gives each segment a mark, that says whose file it is in
-// and at which stretch.
+// Whether the segments in all lists are distinct: each list marks its own segments, without a test, and they are distinct exactly
+// if as many marks stand as were set.
+use crate::marks::MARKS;
+use crate::rows::Row;
 use placing::ENTRIES;
-use placing::LISTS;
-use placing::MOST_SEGMENTS;
-use placing::MOST_STRETCHES;
 use placing::OPENING_LENGTH;
 use placing::OPENINGS_START;
 use placing::PLACES;
-use placing::Position;
 use placing::RECORD_LENGTH;
 use placing::RECORDS_START;
-use placing::Segment;
 use tables::layout;
 ghost use mathlib.Core.Path.{_≡_};
-ghost use mathlib.Core.Bool.{cond};
-ghost use Prim.Native.Nat.{ℕ, _+_, _-_, _*_, _<_, _≤_};
-ghost use lib.ListN.{length};
-ghost use lib.Dec.{eqb};
-ghost use Rattle.placing.specs.Sizes.{places, entries, mostSegments, mostStretches, lists};
-ghost use Rattle.placing.specs.Placing.{heldOf, stretchOf};
+ghost use mathlib.Core.Bool.{true};
+ghost use Prim.Native.Nat.{_+_, _*_, _<_};
+ghost use Rattle.placing.specs.Sizes.{places, entries, mostHeld, lists};
 ghost use Rattle.tables.specs.Lists.{distinctb};
 ghost use Rattle.tables.specs.laws.Sound.{Ranged};
-ghost use Rattle.sound_lists.specs.Files.{FileCells};
-ghost use Rattle.sound_lists.specs.Marks.{mayMark, markTo, cellsFrom, Marked, Remembers};
-ghost use Rattle.sound_lists.specs.Seen.{Seen, Told};
+ghost use Rattle.sound_lists.specs.Marks.{Marked};
+ghost use Rattle.sound_lists.specs.Rows.{cellFrom, RowIn};
+ghost use Rattle.sound_lists.specs.Shared.{changed};
+ghost use Rattle.sound_lists.specs.Passed.{Passes};
 
-// A mark for each segment.
-const MARKS: usize = MOST_SEGMENTS as usize;
+pub mod marks; // a mark for each segment
+mod rows; // where the segments of a record or of an opening stand
 
-// The list of the first opening.
-const FIRST_OPENING: u32 = PLACES as u32;
-
-// Gives the segment the mark, which is not 0; false if it has another already.
-fn mark(marks: &mut [u32; MARKS], segment: Segment, given: u32) -> bool
-    requires { ⌜ segment .0 < mostSegments ⌝ }
+// Marks the segments of a row; how many marks were set.
+fn mark_whole(tables: &[u32], row: Row, marks: &mut [u8; MARKS]) -> u32
+    requires { ⌜ RowIn (now tables) (row .start) (row .held) (row .first) ⌝ }
     ensures { λ r. ⌜
-        (r ≡ mayMark (now (marks .entry)) (segment .0) given)
-        × (now (marks .exit) ≡ markTo (now (marks .entry)) (segment .0) given)
+        Marked (λ k. true) (cellFrom (now (tables .entry)) (row .start)) (now (marks .entry)) (row .held) (now (marks .exit)) r
         ⌝ }
 {
-    let number = segment.number() as usize;
-    if marks[number] == 0 {
-        marks[number] = given;
-        return true;
-    }
-    marks[number] == given
+    let start = row.start;
+    let held = row.held;
+    marks::mark_row(&tables[start..start + held], marks);
+    held as u32
 }
 
-// Marks the segments of a list of so many numbers, by rising stretch; `first` is the first one's mark.
-fn mark_numbers(
-    tables: &[u32],
-    numbers: usize,
-    held: usize,
-    first: u32,
-    marks: &mut [u32; MARKS],
-) -> bool
+// Marks the segments of an opening's row that its record's row does not have at the same stretch; how many marks were set.
+fn mark_changed(tables: &[u32], row: Row, filed: Row, marks: &mut [u8; MARKS]) -> u32
     requires { ⌜
-        (numbers + held ≤ length (now tables))
-        × (first + held < 4294967296)
-        × ((k : ℕ) → k < held → cellsFrom (now tables) numbers k < mostSegments)
+        RowIn (now tables) (row .start) (row .held) (row .first) × RowIn (now tables) (filed .start) (filed .held) (filed .first)
         ⌝ }
     ensures { λ r. ⌜
-        Marked (now (marks .entry)) (cellsFrom (now (tables .entry)) numbers) first held (now (marks .exit)) r
+        Marked
+        (changed (cellFrom (now (tables .entry)) (row .start)) (row .first) (cellFrom (now (tables .entry)) (filed .start)) (filed .held) (filed .first))
+        (cellFrom (now (tables .entry)) (row .start)) (now (marks .entry)) (row .held) (now (marks .exit)) r
         ⌝ }
 {
+    let start = row.start;
+    let mut set = 0;
     let mut k = 0;
-    while k < held {
-        let segment = Segment::of(tables[numbers + k]);
-        if !mark(marks, segment, first + k as u32) {
-            return false;
-        }
+    while k < row.held {
+        let segment = tables[start + k];
+        let shared = rows::has_at(tables, filed, row.first + k as u32, segment);
+        set += marks::mark_unshared(segment, shared, marks);
         k += 1;
     }
-    true
+    set
 }
 
-// Marks the segments of a file whose numbers stand from cell `numbers` on. A mark says the family and the
-// stretch.
-fn mark_file(
-    tables: &[u32],
-    numbers: usize,
-    family: u32,
-    species: u32,
-    begin: Position,
-    end: Position,
-    marks: &mut [u32; MARKS],
-) -> bool
-    requires { ⌜ FileCells (now tables) numbers family species (begin .0) (end .0) ⌝ }
+// Marks the segments of the record at a place; how many marks were set.
+fn mark_record(tables: &[u32], place: usize, marks: &mut [u8; MARKS]) -> u32
+    requires { ⌜ Ranged (now tables) × (place < places) ⌝ }
+    ensures { λ r. ⌜ Passes (now (tables .entry)) place (place + 1) (now (marks .entry)) (now (marks .exit)) r mostHeld ⌝ }
+{
+    if tables[RECORDS_START + RECORD_LENGTH * place] == 0 {
+        return 0;
+    }
+    let row = rows::record_row(tables, place);
+    mark_whole(tables, row, marks)
+}
+
+// Marks the opening's own segments; how many marks were set.
+fn mark_opening(tables: &[u32], entry: usize, marks: &mut [u8; MARKS]) -> u32
+    requires { ⌜ Ranged (now tables) × (entry < entries) ⌝ }
     ensures { λ r. ⌜
-        Marked (now (marks .entry)) (cellsFrom (now (tables .entry)) numbers)
-        (1 + family * mostStretches + stretchOf species (begin .0)) (heldOf species (begin .0) (end .0)) (now (marks .exit)) r
+        Passes (now (tables .entry)) (places + entry) (places + entry + 1) (now (marks .entry)) (now (marks .exit)) r mostHeld
         ⌝ }
 {
-    let held = placing::held(species, begin, end) as usize;
-    let first = 1 + family * MOST_STRETCHES + begin.stretch(species);
-    mark_numbers(tables, numbers, held, first, marks)
-}
-
-// Marks the segments of the record at a place.
-fn mark_record(tables: &[u32], place: usize, marks: &mut [u32; MARKS]) -> bool
-    requires { ⌜ Ranged (now tables) × (place < places) × Remembers (Seen (now tables) place 0) (now marks) ⌝ }
-    ensures { λ r. ⌜ Told (now (tables .entry)) place (now (marks .exit)) r ⌝ }
-{
-    let base = RECORDS_START + RECORD_LENGTH * place;
-    if tables[base] == 0 {
-        return true;
-    }
-    let begin = Position::of(tables[base + layout::RECORD_BEGIN]);
-    let end = Position::of(tables[base + layout::RECORD_END]);
-    mark_file(
-        tables,
-        base + layout::RECORD_SEGMENTS,
-        place as u32,
-        tables[base + layout::RECORD_SPECIES],
-        begin,
-        end,
-        marks,
-    )
-}
-
-// Whose file an entry has open: its record's place, or its own list number where it names no record.
-fn family_of(place: u32, entry: usize) -> u32
-    requires { ⌜ entry < entries ⌝ }
-    ensures { λ r. ⌜ r ≡ cond (eqb place 0) (places + entry) (place - 1) ⌝ }
-{
-    if place == 0 {
-        return FIRST_OPENING + entry as u32;
-    }
-    place - 1
-}
-
-// Marks the segments of the opening at an entry.
-fn mark_opening(tables: &[u32], entry: usize, marks: &mut [u32; MARKS]) -> bool
-    requires { ⌜ Ranged (now tables) × (entry < entries) × Remembers (Seen (now tables) (places + entry) 0) (now marks) ⌝ }
-    ensures { λ r. ⌜ Told (now (tables .entry)) (places + entry) (now (marks .exit)) r ⌝ }
-{
     let base = OPENINGS_START + OPENING_LENGTH * entry;
-    if tables[base] == 0 {
-        return true;
+    // A closed entry has no permit and holds nothing; a read opening "has that record's .. segments", and so none of its own.
+    if tables[base + layout::OPENING_PERMIT] == 0 {
+        return 0;
     }
-    let family = family_of(tables[base + layout::OPENING_PLACE], entry);
-    let begin = Position::of(tables[base + layout::OPENING_BEGIN]);
-    let end = Position::of(tables[base + layout::OPENING_END]);
-    mark_file(
-        tables,
-        base + layout::OPENING_SEGMENTS,
-        family,
-        tables[base + layout::OPENING_SPECIES],
-        begin,
-        end,
-        marks,
-    )
+    let row = rows::opening_row(tables, entry);
+    let place = tables[base + layout::OPENING_PLACE];
+    if place == 0 {
+        return mark_whole(tables, row, marks);
+    }
+    let filed = rows::record_row(tables, place as usize - 1);
+    mark_changed(tables, row, filed, marks)
 }
 
-// Marks the segments of list i.
-fn mark_list(tables: &[u32], i: usize, marks: &mut [u32; MARKS]) -> bool
-    requires { ⌜ Ranged (now tables) × (i < lists) × Remembers (Seen (now tables) i 0) (now marks) ⌝ }
-    ensures { λ r. ⌜ Told (now (tables .entry)) i (now (marks .exit)) r ⌝ }
+// Marks the segments of all records; how many marks were set.
+fn mark_records(tables: &[u32], marks: &mut [u8; MARKS]) -> u32
+    requires { ⌜ Ranged (now tables) ⌝ }
+    ensures { λ r. ⌜ Passes (now (tables .entry)) 0 places (now (marks .entry)) (now (marks .exit)) r (places * mostHeld) ⌝ }
 {
-    if i < PLACES {
-        return mark_record(tables, i, marks);
+    let mut set = 0;
+    let mut place = 0;
+    while place < PLACES {
+        set += mark_record(tables, place, marks);
+        place += 1;
     }
-    mark_opening(tables, i - PLACES, marks)
+    set
 }
 
-// "segments in all lists are distinct, but for a record and its openings at one stretch": one pass with marks.
+// Marks the own segments of all openings; how many marks were set.
+fn mark_openings(tables: &[u32], marks: &mut [u8; MARKS]) -> u32
+    requires { ⌜ Ranged (now tables) ⌝ }
+    ensures { λ r. ⌜ Passes (now (tables .entry)) places lists (now (marks .entry)) (now (marks .exit)) r (entries * mostHeld) ⌝ }
+{
+    let mut set = 0;
+    let mut entry = 0;
+    while entry < ENTRIES {
+        set += mark_opening(tables, entry, marks);
+        entry += 1;
+    }
+    set
+}
+
+// "segments in all lists are distinct, but for a record and its openings at one stretch": a mark that was set twice stands once.
 pub fn distinct(tables: &[u32]) -> bool
     requires { ⌜ Ranged (now tables) ⌝ }
     ensures { λ r. ⌜ r ≡ distinctb (now (tables .entry)) lists ⌝ }
 {
-    let mut marks = [0u32; MARKS];
-    let mut i = 0;
-    while i < LISTS {
-        if !mark_list(tables, i, &mut marks) {
-            return false;
-        }
-        i += 1;
-    }
-    true
+    let mut marks = [0u8; MARKS];
+    let filed = mark_records(tables, &mut marks);
+    let opened = mark_openings(tables, &mut marks);
+    marks::standing(&marks) == filed + opened
 }

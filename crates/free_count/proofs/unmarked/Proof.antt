@@ -10,7 +10,7 @@ use lib.Dec.{eqb}
 use lib.ListN.{getD}
 use Rattle.combine.specs.Below.{countBelow}
 use Rattle.combine.specs.laws.Any.{byte-few}
-use Rattle.free_count.proofs.Counts.{count-start, count-turn}
+use Rattle.combine.specs.laws.Counts.{count-start, count-turn}
 use Rattle.free_count.proofs.unmarked.Statement.{statement}
 use Rattle.free_count.proofs.unmarked.Tie as tie
 

@@ -8,7 +8,7 @@ use lib.ListN.{length, set, length-set}
 use lib.Seq.{paste, paste-zero}
 use Rattle.combine.specs.Below.{countBelow, picked}
 use Rattle.combine.specs.laws.Below.{count-hit}
-use Rattle.free_count.proofs.Counts.{count-start}
+use Rattle.combine.specs.laws.Counts.{count-start}
 use Rattle.moves_pairs.specs.Kinds.{isKind}
 use Rattle.combine.specs.Lists.{paired}
 use Rattle.combine.specs.laws.Picked.{length-picked}

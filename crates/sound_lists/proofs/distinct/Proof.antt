@@ -1,51 +1,26 @@
--- `sound_lists::distinct` meets its contract: the marks remember the lists before `i`. Assumes nothing.
-use Prim.Native.Nat.{_≤_, _-_}
+-- `sound_lists::distinct` meets its contract. Assumes nothing.
 use native.Mathlib.Omega.{arith}
-use borrow.Author.Tests.{not-true, not-false}
-use Rattle.placing.specs.Sizes.{lists}
-use Rattle.sound_lists.specs.Marks.{Remembers}
-use Rattle.sound_lists.specs.Seen.{Seen}
-use Rattle.sound_lists.proofs.Passing.{nothing-seen, pass-ends, pass-stops}
+use Rattle.sound_lists.proofs.Lists.{decided}
+use borrow.Author.Needs.{needs}
 use Rattle.sound_lists.proofs.distinct.Statement.{statement}
 use Rattle.sound_lists.proofs.distinct.Tie as tie
 
-abbrev Inv-loop : tie.InvT-loop
-Inv-loop tables marks₀ i₀ marks i = (i ≤ lists) × Remembers (Seen tables i 0) marks
+mark-records-requires : tie.Need-mark-records-requires
+mark-records-requires c κs = search needs
 
-abbrev μ-loop : tie.MeasureT-loop
-μ-loop tables marks₀ i₀ marks i = lists - i
+mark-openings-requires : tie.Need-mark-openings-requires
+mark-openings-requires c κs = search needs
 
-loop-holds : tie.Need-loop-holds Inv-loop μ-loop
-loop-holds c = (omega arith, nothing-seen _)
+standing-requires : tie.Need-standing-requires
+standing-requires c κs = search needs
 
-mark-list-requires : tie.Need-mark-list-requires Inv-loop μ-loop
-mark-list-requires c κs = (c .before .before .before .before .pre, omega arith, c .before .before .loop .inv .1)
+add-result : tie.Need-add-result
+add-result c = omega (arith, c .before .before .before .before .mark-records .ensures .few, c .before .before .mark-openings .ensures .few)
 
-returns : tie.Need-returns Inv-loop μ-loop
-returns c = pass-stops _ _ _ _ (omega arith) (c .before .mark-list .ensures) (not-true _ (c .if1 .taken))
-
-add-i : tie.Need-add-i Inv-loop μ-loop
-add-i c = omega arith
-
-loop-less : tie.Need-loop-less Inv-loop μ-loop
-loop-less c = omega arith
-
-loop-again : tie.Need-loop-again Inv-loop μ-loop
-loop-again c = (omega arith, c .before .mark-list .ensures .good (not-false _ (c .if1 .left)))
-
-returns-2 : tie.Need-returns-2 Inv-loop μ-loop
-returns-2 c = pass-ends _ (c .before .before .before .pre) (c .before .loop .i) (c .before .loop .marks) (omega arith) (omega arith) (c .before .loop .inv .1)
+returns : tie.Need-returns
+returns c = decided _ (c .before .before .before .before .before .before .before .pre) _ _ _ _ _ _ _ (c .before .before .before .before .mark-records .ensures) (c .before .before .mark-openings .ensures) (c .standing .ensures)
 
 pub distinct-spec : {M : Type 1} → statement M
 distinct-spec =
     tie.close
-    (tie.spec
-    Inv-loop
-    μ-loop
-    loop-holds
-    mark-list-requires
-    returns
-    add-i
-    loop-less
-    loop-again
-    returns-2)
+    (tie.spec mark-records-requires mark-openings-requires standing-requires add-result returns)

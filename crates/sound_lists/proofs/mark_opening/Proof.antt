@@ -1,9 +1,6 @@
 -- `sound_lists::mark_opening` meets its contract. Assumes nothing.
-use Prim.Native.Nat.{_+_}
 use native.Mathlib.Omega.{arith}
-use Rattle.sound_lists.specs.ListCells.{opening-held-closed}
-use Rattle.sound_lists.specs.Files.{file-cells, opening-file}
-use Rattle.sound_lists.proofs.Passing.{none-told, file-told}
+use Rattle.sound_lists.proofs.Listing.{read-passes, new-passes, with-permit, work-place, work-record, work-passes}
 use borrow.Author.Needs.{needs}
 use Rattle.sound_lists.proofs.mark_opening.Statement.{statement}
 use Rattle.sound_lists.proofs.mark_opening.Tie as tie
@@ -14,6 +11,9 @@ mul-base c = search needs
 add-base : tie.Need-add-base
 add-base c = search needs
 
+add-if1 : tie.Need-add-if1
+add-if1 c = search needs
+
 mul-if1 : tie.Need-mul-if1
 mul-if1 c = search needs
 
@@ -22,77 +22,52 @@ shared-slice-read-if1 c = search needs
 
 returns : tie.Need-returns
 returns c =
-    let a = c .before .before .before .args in
-    let p = c .before .before .before .pre in
-    none-told (a .tables .now) (64 + a .entry) (a .marks .now) (opening-held-closed (a .tables .now) (a .entry) (c .if1 .taken)) (p .2)
+    let s = c .before .before .before in
+    read-passes (s .args .tables .now) (s .pre .0) (s .args .entry) (s .pre .1) _ (c .if1 .taken)
 
-add-family-of : tie.Need-add-family-of
-add-family-of c = search needs
+opening-row-requires : tie.Need-opening-row-requires
+opening-row-requires c κs =
+    let s = c .before .before .before in
+    (s .pre .0, s .pre .1, with-permit (s .args .tables .now) (s .pre .0) (s .args .entry) (s .pre .1) (c .if1 .left))
 
-mul-family-of : tie.Need-mul-family-of
-mul-family-of c = search needs
+add-place : tie.Need-add-place
+add-place c = search needs
 
-shared-slice-read-family-of : tie.Need-shared-slice-read-family-of
-shared-slice-read-family-of c = search needs
+mul-place : tie.Need-mul-place
+mul-place c = search needs
 
-family-of-requires : tie.Need-family-of-requires
-family-of-requires c κs = search needs
+shared-slice-read-place : tie.Need-shared-slice-read-place
+shared-slice-read-place c = search needs
 
-add-of : tie.Need-add-of
-add-of c = search needs
-
-mul-of : tie.Need-mul-of
-mul-of c = search needs
-
-shared-slice-read-of : tie.Need-shared-slice-read-of
-shared-slice-read-of c = search needs
-
-of-requires : tie.Need-of-requires
-of-requires c κs = search needs
-
-add-of-2 : tie.Need-add-of-2
-add-of-2 c = search needs
-
-mul-of-2 : tie.Need-mul-of-2
-mul-of-2 c = search needs
-
-shared-slice-read-of-2 : tie.Need-shared-slice-read-of-2
-shared-slice-read-of-2 c = search needs
-
-of-requires-2 : tie.Need-of-requires-2
-of-requires-2 c κs = search needs
-
-add-mark-file : tie.Need-add-mark-file
-add-mark-file c = search needs
-
-add-mark-file-2 : tie.Need-add-mark-file-2
-add-mark-file-2 c = search needs
-
-mul-mark-file : tie.Need-mul-mark-file
-mul-mark-file c = search needs
-
-shared-slice-read-mark-file : tie.Need-shared-slice-read-mark-file
-shared-slice-read-mark-file c = search needs
-
-mark-file-requires : tie.Need-mark-file-requires
-mark-file-requires c κs =
-    let a = c .before .before .before .before .before .before .before .before .before .before .before .args in
-    let p = c .before .before .before .before .before .before .before .before .before .before .before .pre in
-    let f = c .before .before .before .before .before .before .family-of in
-    let b = c .before .before .before .before .of in
-    let e = c .before .before .of2 in
-    let file = opening-file (a .tables .now) (p .0) (a .entry) (p .1) (c .before .before .before .before .before .before .before .before .if1 .left) (b .result) (e .result) (f .result) (b .ensures) (e .ensures) (f .ensures) in
-    file-cells (a .tables .now) (p .0) (64 + a .entry) _ _ _ _ _ (omega arith) file
+mark-whole-requires : tie.Need-mark-whole-requires
+mark-whole-requires c κs = search needs
 
 returns-2 : tie.Need-returns-2
 returns-2 c =
-    let a = c .before .before .before .before .before .before .before .before .before .before .before .before .args in
-    let p = c .before .before .before .before .before .before .before .before .before .before .before .before .pre in
-    let f = c .before .before .before .before .before .before .before .family-of in
-    let b = c .before .before .before .before .before .of in
-    let e = c .before .before .before .of2 in
-    let file = opening-file (a .tables .now) (p .0) (a .entry) (p .1) (c .before .before .before .before .before .before .before .before .before .if1 .left) (b .result) (e .result) (f .result) (b .ensures) (e .ensures) (f .ensures) in
-    file-told (a .tables .now) (p .0) (64 + a .entry) (omega arith) (a .marks .now) (p .2) _ _ _ _ _ file _ _ (c .mark-file .ensures)
+    let s = c .before .before .before .before .before .before .before .before in
+    new-passes (s .args .tables .now) (s .pre .0) (s .args .entry) (s .pre .1) _ _ _ _ _ _ (c .before .before .if2 .taken) (c .before .before .before .before .opening-row .ensures) (c .mark-whole .ensures)
+
+cast-record-row : tie.Need-cast-record-row
+cast-record-row c =
+    let s = c .before .before .before .before .before .before in
+    omega (arith, work-place (s .args .tables .now) (s .pre .0) (s .args .entry) (s .pre .1) (c .if2 .left))
+
+sub-record-row : tie.Need-sub-record-row
+sub-record-row c = search needs
+
+record-row-requires : tie.Need-record-row-requires
+record-row-requires c κs =
+    let s = c .before .before .before .before .before .before in
+    let opened = with-permit (s .args .tables .now) (s .pre .0) (s .args .entry) (s .pre .1) (c .before .before .before .if1 .left) in
+    (s .pre .0, work-place (s .args .tables .now) (s .pre .0) (s .args .entry) (s .pre .1) (c .if2 .left), work-record (s .args .tables .now) (s .pre .0) (s .args .entry) (s .pre .1) (c .if2 .left) opened)
+
+mark-changed-requires : tie.Need-mark-changed-requires
+mark-changed-requires c κs = search needs
+
+returns-3 : tie.Need-returns-3
+returns-3 c =
+    let s = c .before .before .before .before .before .before .before .before .before in
+    work-passes (s .args .tables .now) (s .pre .0) (s .args .entry) (s .pre .1) (c .before .before .before .if2 .left) _ _ _ _ _ _ _ _ _ (c .before .before .before .before .before .opening-row .ensures) (c .before .before .record-row .ensures) (c .mark-changed .ensures)
 
 pub mark-opening-spec : {M : Type 1} → statement M
 mark-opening-spec =
@@ -100,24 +75,18 @@ mark-opening-spec =
     (tie.spec
     mul-base
     add-base
+    add-if1
     mul-if1
     shared-slice-read-if1
     returns
-    add-family-of
-    mul-family-of
-    shared-slice-read-family-of
-    family-of-requires
-    add-of
-    mul-of
-    shared-slice-read-of
-    of-requires
-    add-of-2
-    mul-of-2
-    shared-slice-read-of-2
-    of-requires-2
-    add-mark-file
-    add-mark-file-2
-    mul-mark-file
-    shared-slice-read-mark-file
-    mark-file-requires
-    returns-2)
+    opening-row-requires
+    add-place
+    mul-place
+    shared-slice-read-place
+    mark-whole-requires
+    returns-2
+    cast-record-row
+    sub-record-row
+    record-row-requires
+    mark-changed-requires
+    returns-3)

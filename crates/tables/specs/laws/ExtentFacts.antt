@@ -1,19 +1,15 @@
 -- What a sound extent and a sound list of segment numbers say, fact by fact: a record's and an opening's alike. Assumes nothing.
 use Prim.Native.Nat.{ℕ, _+_, _-_, _≤_, _<_}
 use mathlib.Core.Path.{_≡_, sym, ap, _∙_}
-use mathlib.Core.Logic.{⊎-elim}
-use mathlib.Core.Bool.{true, false}
+use mathlib.Core.Bool.{true}
 use mathlib.Core.List.{List}
-use native.Mathlib.Nat.{div-lt-iff-lt-mul}
 use native.Mathlib.Omega.{arith}
-use lib.Dec.{ltb}
 use borrow.Author.Tests.{leb-true, ltb-true, eqb-true}
-use Rattle.combine.specs.laws.Below.{all-at, split-bool}
+use Rattle.combine.specs.laws.Below.{all-at}
 use Rattle.combine.specs.laws.Rows.{each-of}
 use Rattle.placing.specs.declared.Segment.{Segment}
-use Rattle.placing.specs.Sizes.{mostHeld, greatestEnd, greatestSpecies, elementsOf, mostStretches}
-use Rattle.placing.specs.Placing.{heldOf, stretchOf}
-use Rattle.placing.specs.laws.Sized.{elements-many, stretch-mono}
+use Rattle.placing.specs.Sizes.{mostHeld, greatestEnd, greatestSpecies}
+use Rattle.placing.specs.Placing.{heldOf}
 use Rattle.tables.specs.Fields.{numberAt}
 use Rattle.tables.specs.Records.{extentb, listb}
 
@@ -58,26 +54,3 @@ listb-facts n held l ok =
           let e : held + (k - held) ≡ k = omega arith in
           ap (numberAt l) (sym e) ∙ eqb-true (numberAt l (held + (k - held))) 0 (all-at _ (mostHeld - held) (f .1 .0) (k - held) (omega arith));
     }
-
--- the stretches of a file are few, as its end is at most the greatest
-pub stretch-below : (s x : ℕ) → s ≤ greatestSpecies → x ≤ greatestEnd → stretchOf s x < mostStretches
-unfolding stretchOf
-stretch-below s x h l =
-    let many = elements-many s h in
-    div-lt-iff-lt-mul {k = elementsOf s} {x = x - 1} {y = mostStretches} (omega arith) .1 (omega arith)
-
-module _ (s b e : ℕ) (f : SoundExtent s b e) where
-  pub stretch-small : (k : ℕ) → k < heldOf s b e → stretchOf s b + k < mostStretches
-  unfolding heldOf
-  stretch-small k h = ⊎-elim some none (split-bool (ltb b e))
-    where
-      some : ltb b e ≡ true → stretchOf s b + k < mostStretches
-      some q =
-          let l : b < e = ltb-true b e q in
-          let n : k < stretchOf s (e - 1) - stretchOf s b + 1 = rw q at h in
-          omega (arith, stretch-below s (e - 1) (f .species) (omega arith), stretch-mono s (f .species) b (e - 1) (omega arith))
-
-      none : ltb b e ≡ false → stretchOf s b + k < mostStretches
-      none q =
-          let n : k < 0 = rw q at h in
-          omega arith

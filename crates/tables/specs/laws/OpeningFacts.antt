@@ -160,8 +160,15 @@ module _ (t : List ℕ) (ok : openingsb t ≡ true) where
       let e : openingAt t i .opened ≡ 1 = eqb-true (openingAt t i .opened) 1 u in
       opening-not-closed i li (λ z. omega arith)
 
-  -- a closed entry names no record
+  -- a closed entry names no record and has no permit
+  closed-facts : (i : ℕ) → i < entries → openingAt t i .opened ≡ 0 → closedb (openingAt t i) ≡ true
+  unfolding openingsb openingb
+  closed-facts i li z = rw (eq-eqb (openingAt t i .opened) 0 z) at (all-at _ entries ok i li)
+
   pub closed-place : (i : ℕ) → i < entries → openingAt t i .opened ≡ 0 → openingAt t i .place ≡ 0
-  unfolding openingsb openingb closedb
-  closed-place i li z =
-      eqb-true (openingAt t i .place) 0 (each-of _ (rw (eq-eqb (openingAt t i .opened) 0 z) at (all-at _ entries ok i li)) .0)
+  unfolding closedb
+  closed-place i li z = eqb-true (openingAt t i .place) 0 (each-of _ (closed-facts i li z) .0)
+
+  pub closed-permit : (i : ℕ) → i < entries → openingAt t i .opened ≡ 0 → openingAt t i .permit ≡ 0
+  unfolding closedb
+  closed-permit i li z = eqb-true (openingAt t i .permit) 0 (each-of _ (closed-facts i li z) .1 .0)
