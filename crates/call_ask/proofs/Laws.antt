@@ -12,8 +12,8 @@ use Rattle.answers.specs.declared.Refusal.the-variants.{Pointer}
 use Rattle.answers.specs.declared.Answer.{Answer}
 use Rattle.answers.specs.declared.Answer.the-variants.{Done, Refused}
 use Rattle.placing.specs.declared.Position.{Position}
-use Rattle.placing.specs.Sizes.{entries, tablesLength, greatestSpecies, greatestEnd}
-use Rattle.placing.specs.Placing.{claimOf}
+use Rattle.placing.specs.Sizes.{entries, tablesLength, greatestSpecies, greatestEnd, mostHeld}
+use Rattle.placing.specs.Placing.{heldOf, claimOf}
 use Rattle.placing.specs.laws.Tests.{none-so, none-not}
 use Rattle.rules.specs.Calls.{Act, uses, askSpecies, askClaim, askPermit, askSymbol, askBegin, askEnd, askValue}
 use Rattle.tables.specs.Layout.{openingAt}
@@ -106,6 +106,9 @@ module _ (s t : List ℕ) (u e : ℕ) (g : Gate) (eg : g ≡ reachOf (length s) 
       pub claim-last : c ≤ greatestEnd
       claim-last = sound .greatest
 
+      pub claim-held : heldOf a b c ≤ mostHeld
+      claim-held = sound .held
+
     pub no-symbol-answered : (k : ℕ) → 11 < k → outcome (Done 63) s t ≡ requestOut (uses (askSymbol k)) s t u e
     no-symbol-answered k h = answered s t u e i here-at (askSymbol k) 63 refl (asks-no-symbol s t u e i here-at k h)
 
@@ -132,4 +135,4 @@ module _ (s t : List ℕ) (u e : ℕ) (g : Gate) (eg : g ≡ reachOf (length s) 
 -- what `field` asks
 pub ruleset within = (long-behind, entry-behind, needs)
 
-pub ruleset inquiring = (tell-no, tell-at, species-told, permit-told, begin-told, end-told, refused-at-gate, claim-answered, claim-species, claim-first, claim-order, claim-last, no-symbol-answered, symbol-answered, no-pointer-answered, no-value-answered, value-answered)
+pub ruleset inquiring = (tell-no, tell-at, species-told, permit-told, begin-told, end-told, refused-at-gate, claim-answered, claim-species, claim-first, claim-order, claim-last, claim-held, no-symbol-answered, symbol-answered, no-pointer-answered, no-value-answered, value-answered)

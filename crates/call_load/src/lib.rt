@@ -1,6 +1,7 @@
 // The operator's load.
 use answers::Answer;
 use answers::Refusal;
+use image::FORM;
 use image::IMAGE_LENGTH;
 use placing::LEAST_STORE;
 use placing::TABLES_LENGTH;
@@ -18,10 +19,13 @@ fn judged(store: &[u32], tables: &mut [u32], image: &[u32], beside: &mut [u32]) 
     ensures { λ r. ⌜ outcome r (now (store .entry)) (now (tables .exit)) ≡ loadOut (now (store .entry)) (now (tables .entry)) (now (image .entry)) ⌝ }
 {
     let head = image_code::take_head(&image[0..1]);
-    if head[0] != 1 {
+    if head[0] != FORM {
         return Answer::Refused(Refusal::Image);
     }
     if head[2] != 0 {
+        return Answer::Refused(Refusal::Image);
+    }
+    if !image_code::spares_zero(image) {
         return Answer::Refused(Refusal::Image);
     }
     image_code::take_image(image, beside);

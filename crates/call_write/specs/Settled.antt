@@ -21,12 +21,12 @@ unfoldable pub settled : List ℕ → List ℕ → ℕ → Opening → ℕ → �
 settled s t i o p n g =
     outcomeOf (done 0) (lent (putElement s (o .species) g (position (valueOf o p)) n) (putOpening t i (pointed o p (position (valueOf o p + 1)))))
 
--- pointer p of the opening has a value
+-- pointer p of the opening has a value, and one more is a position
 pub record Moves (o : Opening) (p : ℕ) : Type 0 where
   pub species : o .species ≤ greatestSpecies
   pub known : p < 8
   pub some : 1 ≤ valueOf o p
-  pub small : valueOf o p ≤ greatestEnd
+  pub small : valueOf o p < greatestEnd
 
 -- the act, by the kind of its number
 abbrev pub writeOf : (pointer : ℕ) → Number → Act

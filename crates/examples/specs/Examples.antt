@@ -12,7 +12,8 @@ use Rattle.names.specs.Names.{Bytes, nameOf}
 use Rattle.rules.specs.Calls.{new, work, read, rename, reset, newPointer, write, next, prev, writeSigned, nextSigned, prevSigned, askBegin, askEnd, askValue, Request, opens, closes, abandons, uses}
 use Rattle.rules.specs.Calls.{Run, writes, fills, tidy, Call, fresh, starts, arranges, on, runs}
 use Rattle.rules.specs.Runs.{RunTold, noRun}
-use Rattle.examples.specs.Holding.{Example, numbers, answers, gives, tells, saves}
+use Rattle.image.specs.Image.{form1}
+use Rattle.examples.specs.Holding.{Example, numbers, answers, gives, tells, saves, packs}
 
 -- ---- the examples; a user's calls are of user 2 by entry 0
 
@@ -38,6 +39,10 @@ notCut = answers segmentCells (starts fresh ∷ asked (opens (new 3) ∷ uses (w
 abbrev pub claims : Example
 claims = numbers (heldOf 5 64 66 ∷ claimOf 5 64 66 ∷ heldOf 5 65 65 ∷ claimOf 5 65 65 ∷ []) (2 ∷ 65 ∷ 0 ∷ 0 ∷ [])
 
+-- the last position of all, 4,294,967,294, alone (document 02, P6): one segment, and a claim of 3, which counts two positions beyond all ends
+abbrev pub lastClaim : Example
+lastClaim = numbers (heldOf 5 4294967294 4294967295 ∷ claimOf 5 4294967294 4294967295 ∷ []) (1 ∷ 3 ∷ [])
+
 -- append 10, 20 to a new file of species 5; prev through 1 gives 20, then 10, then refusal 6
 abbrev pub appends : Example
 appends =
@@ -52,12 +57,12 @@ ownPointer =
     (opens (new 5) ∷ uses (write 1 10) ∷ uses (write 1 20) ∷ uses (newPointer 1) ∷ uses (write 3 30) ∷ uses (prev 3) ∷ uses askBegin ∷ uses askEnd ∷ []))
     (done 0 ∷ done 0 ∷ done 0 ∷ done 0 ∷ done 3 ∷ refused 7 ∷ done 20 ∷ done 1 ∷ done 3 ∷ [])
 
--- fresh with 128 segments, saved: 0x01100000, then 896 zero cells
+-- fresh with 128 segments, saved: 0x02100000, then 960 zero cells (document 02, P6: "both saved images are form 2, with 0x02100000 first")
 abbrev pub savedFresh : Example
-savedFresh = saves (segmentCells * 128) (starts fresh ∷ []) (0x01100000 ∷ replicate 896 0)
+savedFresh = saves (segmentCells * 128) (starts fresh ∷ []) (0x02100000 ∷ replicate 960 0)
 
--- that store with one private file "a" of user 2, species 5, b = 1, e = 2, segment 0: cells 0x01100000, 0x95FFFFFF, 0xFFFFFFFF, 0xFFAD0000,
--- 0x01000002, then 892 zeros
+-- that store with one private file "a" of user 2, species 5, b = 1, e = 2, segment 0: cells 0x02100000, 0x95FFFFFF, 0xFFFFFFFF, 0xFFAD0000,
+-- 0x00010000, 0x00020000, then 955 zeros
 abbrev pub bytesOfA : Bytes
 bytesOfA = 97 ∷ []
 
@@ -65,10 +70,18 @@ abbrev pub makesFileA : List Call
 makesFileA = asked (opens (new 5) ∷ uses (write 1 10) ∷ uses (rename bytesOfA) ∷ closes false ∷ [])
 
 abbrev pub imageWithA : Cells
-imageWithA = 0x01100000 ∷ 0x95FFFFFF ∷ 0xFFFFFFFF ∷ 0xFFAD0000 ∷ 0x01000002 ∷ replicate 892 0
+imageWithA = 0x02100000 ∷ 0x95FFFFFF ∷ 0xFFFFFFFF ∷ 0xFFAD0000 ∷ 0x00010000 ∷ 0x00020000 ∷ replicate 955 0
 
 abbrev pub savedFile : Example
 savedFile = saves (segmentCells * 128) (starts fresh ∷ makesFileA) imageWithA
+
+-- "the cells printed in 01 stay true of form 1": 0x01100000, then 896 zero cells; and 0x01100000, 0x95FFFFFF, 0xFFFFFFFF, 0xFFAD0000, 0x01000002,
+-- then 892 zeros
+abbrev pub printedFresh : Example
+printedFresh = packs form1 (segmentCells * 128) (starts fresh ∷ []) (0x01100000 ∷ replicate 896 0)
+
+abbrev pub printedFile : Example
+printedFile = packs form1 (segmentCells * 128) (starts fresh ∷ makesFileA) (0x01100000 ∷ 0x95FFFFFF ∷ 0xFFFFFFFF ∷ 0xFFAD0000 ∷ 0x01000002 ∷ replicate 892 0)
 
 -- file 10, 20 opened for work, prev through 1, append 99, abandon: read gives 10, 20
 abbrev pub givenUp : Example
@@ -169,4 +182,4 @@ degrees =
     ∷ refused 19 ∷ done (pos 0) ∷ refused 19 ∷ refused 19 ∷ []))
 
 abbrev pub worked : List Example
-worked = lift7 ∷ lift ∷ ten ∷ notCut ∷ claims ∷ appends ∷ ownPointer ∷ savedFresh ∷ savedFile ∷ givenUp ∷ runsAnswered ∷ runsTold ∷ startsAtTheEnd ∷ looksAbsent ∷ tidies ∷ degrees ∷ []
+worked = lift7 ∷ lift ∷ ten ∷ notCut ∷ claims ∷ lastClaim ∷ appends ∷ ownPointer ∷ savedFresh ∷ savedFile ∷ printedFresh ∷ printedFile ∷ givenUp ∷ runsAnswered ∷ runsTold ∷ startsAtTheEnd ∷ looksAbsent ∷ tidies ∷ degrees ∷ []

@@ -10,7 +10,7 @@ use Rattle.placing.specs.Sizes.{Cells, tablesLength}
 use Rattle.numbers.specs.Numbers.{signedOf}
 use Rattle.rules.specs.Calls.{Call}
 use Rattle.rules.specs.Runs.{RunTold}
-use Rattle.image.specs.Image.{served, imageLength}
+use Rattle.image.specs.Image.{Form, served, imageLength, imageOf}
 use Rattle.cells.specs.Outcomes.{Lent, lent, saved, saveOut, callRun}
 use Rattle.demands.specs.History.{outcomeOn, afterCall, final}
 
@@ -43,6 +43,11 @@ SavesAfter n calls image =
     → let x = final calls (lent store tables) in
     saveOut (x .store) (x .tables) buffer ≡ outcomeOf (done 0) (saved (x .store) (x .tables) image)
 
+-- in a form of image, the tables that the calls leave are this image
+unfoldable pub PacksAfter : Form → (cells : ℕ) (calls : List Call) (image : Cells) → Type 0
+PacksAfter f n calls image =
+    (store tables : Cells) → length store ≡ n → length tables ≡ tablesLength → imageOf f (final calls (lent store tables) .tables) ≡ image
+
 -- ---- what is said of that, and of numbers that the definitions give
 
 pub data Example : Type 0 where
@@ -51,6 +56,7 @@ pub data Example : Type 0 where
   gives : (cells : ℕ) (calls : List Call) (given : List (Verdict ℤ)) → Example
   tells : (cells : ℕ) (calls : List Call) (told : List RunTold) → Example
   saves : (cells : ℕ) (calls : List Call) (image : Cells) → Example
+  packs : (form : Form) (cells : ℕ) (calls : List Call) (image : Cells) → Example
 
 abbrev pub Holds : Example → Type 0
 Holds (numbers given said) = given ≡ said
@@ -58,6 +64,7 @@ Holds (answers n calls said) = AnswersSo n calls said
 Holds (gives n calls given) = GivesSo n calls given
 Holds (tells n calls told) = TellsSo n calls told
 Holds (saves n calls image) = SavesAfter n calls image
+Holds (packs f n calls image) = PacksAfter f n calls image
 
 abbrev pub AllHold : List Example → Type 0
 AllHold [] = Unit {0}

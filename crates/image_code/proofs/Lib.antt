@@ -1,4 +1,3 @@
--- What the code of `encoding` does. Assumes nothing.
+-- What the code of this crate does. Assumes nothing.
 pub mod Turns
 pub mod Made
-pub mod Two

@@ -16,7 +16,7 @@ unfolding imageOf
 image-made t x ys z e f =
     let records : List ℕ = joined (tab places (recordImage served t)) in
     f ∙ ap (λ (k : List ℕ). take 1 (putMid 0 1 x k) ++ records) e
-    ∙ ap (λ (k : List ℕ). k ++ records) (take-at (headImage served (getD t 0 0)) (postOf 0 1 x) 1 (head-length (getD t 0 0)))
+    ∙ ap (λ (k : List ℕ). k ++ records) (take-at (headImage served (getD t 0 0)) (postOf 0 1 x) 1 (head-length served (getD t 0 0)))
 
 -- the cells after the records, in tables that are zero from cell 1 on
 zeros-after : drop {A = ℕ} (openingsStart - 1) (replicate (tablesLength - 1) 0) ≡ replicate (tablesLength - openingsStart) 0

@@ -1,4 +1,4 @@
--- What the image rests on: the numbers of a sound record fit its widths, and an unused record is all zero. Assumes nothing.
+-- What the image rests on: the numbers of a sound record fit the widths of the form that is served, and an unused record is all zero. Assumes nothing.
 use Prim.Native.Nat.{ℕ, zero, suc, _+_, _-_, _^_, _≤_, _<_, zero-le}
 use mathlib.Core.Path.{_≡_, refl, subst, _∙_}
 use mathlib.Core.Logic.{⊎-elim}
@@ -27,20 +27,21 @@ use Rattle.tables.specs.laws.Sound.{Ranged}
 use Rattle.sound_extents.specs.Numbers.{segment-number}
 use Rattle.sound_records.specs.Unused.{unused-row}
 use Rattle.packing_rows.specs.Waiting.{Fitting}
-use Rattle.image.specs.Image.{headWidths, recordWidths}
+use Rattle.image.specs.Image.{Form, served, headWidths, recordWidths}
+use Rattle.image.specs.laws.Formed.{Formed}
 
--- 50 cells, each of its width
-abbrev pub Fits : List ℕ → Type 0
-Fits c = (k : ℕ) → k < recordLength → getD c k 0 < 2 ^ getD recordWidths k 0
+-- 50 cells, each of its width in the form
+abbrev pub Fits : Form → List ℕ → Type 0
+Fits f c = (k : ℕ) → k < recordLength → getD c k 0 < 2 ^ getD (f .widths) k 0
 
 -- ---- the head
 
-pub head-fits : (n : ℕ) → n < 2048 → Fitting headWidths (1 ∷ n ∷ 0 ∷ [])
+pub head-fits : (f : Form) → Formed f → (n : ℕ) → n < 2048 → Fitting headWidths (f .number ∷ n ∷ 0 ∷ [])
 unfolding headWidths
-head-fits n h zero l = lit< tt
-head-fits n h (suc zero) l = h
-head-fits n h (suc (suc zero)) l = lit< tt
-head-fits n h (suc (suc (suc i))) l = absurd (let z : ⊥ = omega arith in z)
+head-fits f w n h zero l = w .small
+head-fits f w n h (suc zero) l = h
+head-fits f w n h (suc (suc zero)) l = lit< tt
+head-fits f w n h (suc (suc (suc i))) l = absurd (let z : ⊥ = omega arith in z)
 
 -- ---- above each number: used; symbols; owner, private, species, begin, end; segment numbers
 
@@ -50,9 +51,9 @@ heads = 8 ∷ 2 ∷ 8 ∷ (greatestEnd + 1) ∷ (greatestEnd + 1) ∷ []
 unfoldable limit : ℕ → ℕ
 limit k = cond (ltb k 1) 2 (cond (ltb k 13) 64 (cond (ltb k 18) (getD heads (k - 13) 0) mostSegments))
 
-limit-width : (k : ℕ) → k < recordLength → limit k ≤ 2 ^ getD recordWidths k 0
+limit-width : (k : ℕ) → k < recordLength → limit k ≤ 2 ^ getD (served .widths) k 0
 unfolding allBelow limit recordWidths
-limit-width k l = leb-true _ _ (all-at (λ k. leb (limit k) (2 ^ getD recordWidths k 0)) recordLength refl k l)
+limit-width k l = leb-true _ _ (all-at (λ k. leb (limit k) (2 ^ getD (served .widths) k 0)) recordLength refl k l)
 
 record Small (c : List ℕ) : Type 0 where
   used : getD c 0 0 < 2
@@ -60,7 +61,7 @@ record Small (c : List ℕ) : Type 0 where
   middle : (j : ℕ) → j < 5 → getD c (13 + j) 0 < getD heads j 0
   segments : (k : ℕ) → k < mostHeld → getD c (18 + k) 0 < mostSegments
 
-small-fits : (c : List ℕ) → Small c → Fits c
+small-fits : (c : List ℕ) → Small c → Fits served c
 unfolding limit
 small-fits c s k l = lt-of-lt-of-le (go (ltb k 1) (ltb k 13) (ltb k 18) refl refl refl) (limit-width k l)
   where
@@ -124,17 +125,17 @@ module _ (n : ℕ) (most : n ≤ mostSegments) (c : List ℕ) where
   unfolding recordb recordOf
   record-blank l ok z = unused-row c l z ∙ (rw (eq-eqb (getD c 0 0) 0 z) at ok)
 
-  record-fits : length c ≡ 50 → recordb n (recordOf c) ≡ true → Fits c
+  record-fits : length c ≡ 50 → recordb n (recordOf c) ≡ true → Fits served c
   unfolding recordb recordOf
   record-fits l ok = ⊎-elim unused (λ p. small-fits c (used-small (rw p at ok))) (split-bool (eqb (getD c 0 0) 0))
     where
-      unused : eqb (getD c 0 0) 0 ≡ true → Fits c
+      unused : eqb (getD c 0 0) 0 ≡ true → Fits served c
       unused p k h =
           let z = eqb-true (getD c k 0) 0 (all-at _ (length c) (record-blank l ok (eqb-true (getD c 0 0) 0 p)) k (omega arith)) in
-          omega (arith, z, pow-pos (getD recordWidths k 0))
+          omega (arith, z, pow-pos (getD (served .widths) k 0))
 
-pub record Writable (c : List ℕ) : Type 0 where
-  pub fits : Fits c
+pub record Writable (f : Form) (c : List ℕ) : Type 0 where
+  pub fits : Fits f c
   pub blank : getD c 0 0 ≡ 0 → allBelow (length c) (λ k. eqb (getD c k 0) 0) ≡ true
 
 -- ---- in sound tables
@@ -147,8 +148,8 @@ module _ (t : List ℕ) (w : Ranged t) (p : ℕ) (l : p < places) where
   long : length (part t (recordBase p) 50) ≡ 50
   long = length-part t (recordBase p) 50 (omega (arith, w .0))
 
-  pub records-fit : Fits (part t (recordBase p) 50)
+  pub records-fit : Fits served (part t (recordBase p) 50)
   records-fit = record-fits (segmentsIn t) (w .3) (part t (recordBase p) 50) long sound
 
-  pub records-writable : Writable (part t (recordBase p) 50)
+  pub records-writable : Writable served (part t (recordBase p) 50)
   records-writable = record { fits = records-fit; blank = record-blank (segmentsIn t) (w .3) (part t (recordBase p) 50) long sound }

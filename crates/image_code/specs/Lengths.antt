@@ -1,21 +1,33 @@
--- How many cells the head and a record have in the image, and a record in the tables. Assumes nothing.
-use Prim.Native.Nat.{ℕ}
+-- How many cells the head and a record have in an image of a form, and a record in the tables. Assumes nothing.
+use Prim.Native.Nat.{ℕ, _+_, _≤_}
 use mathlib.Core.Path.{_≡_, _∙_}
 use mathlib.Core.List.{List}
-use lib.ListN.{length}
+use native.Mathlib.Omega.{arith}
+use lib.ListN.{length, take}
+use lib.Seq.{length-take-le}
 use Rattle.packing_rows.specs.Cells.{length-cellsOf}
 use Rattle.packing_rows.specs.Pack.{unpacked-length}
-use Rattle.image.specs.Image.{served, recordWidths, headImage, recordImage, recordFrom}
-use Rattle.image_code.specs.Widths.{record-many}
+use Rattle.packing.specs.Packing.{unpacked, rowOf}
+use Rattle.placing.specs.Sizes.{recordLength}
+use Rattle.image.specs.Image.{Form, rowWidths, headImage, packedRecord, recordImage, unpackedRecord, recordFrom, recordPart}
+use Rattle.image.specs.laws.Formed.{Formed, row-many}
 
-pub head-length : (n : ℕ) → length (headImage served n) ≡ 1
+pub head-length : (f : Form) (n : ℕ) → length (headImage f n) ≡ 1
 unfolding headImage
-head-length n = length-cellsOf 1 _
+head-length f n = length-cellsOf 1 _
 
-pub record-image-length : (t : List ℕ) (p : ℕ) → length (recordImage served t p) ≡ 14
-unfolding recordImage
-record-image-length t p = length-cellsOf 14 _
+pub record-image-length : (f : Form) (t : List ℕ) (p : ℕ) → length (recordImage f t p) ≡ f .cells
+unfolding recordImage packedRecord
+record-image-length f t p = length-cellsOf (f .cells) _
 
-pub record-from-length : (img : List ℕ) (p : ℕ) → length (recordFrom served img p) ≡ 50
+-- the fields of a record, and the zeros at its end
+pub row-long : (f : Form) → Formed f → (c : List ℕ) → length (unpacked (rowWidths f) (rowOf c)) ≡ recordLength + length (f .spare)
+row-long f w c = unpacked-length (rowWidths f) _ ∙ row-many f w
+
+pub unpacked-record-length : (f : Form) → Formed f → (c : List ℕ) → length (unpackedRecord f c) ≡ recordLength
+unfolding unpackedRecord
+unpacked-record-length f w c = length-take-le recordLength (unpacked (rowWidths f) (rowOf c)) (omega (arith, row-long f w c))
+
+pub record-from-length : (f : Form) → Formed f → (img : List ℕ) (p : ℕ) → length (recordFrom f img p) ≡ recordLength
 unfolding recordFrom
-record-from-length img p = unpacked-length recordWidths _ ∙ record-many
+record-from-length f w img p = unpacked-record-length f w (recordPart f img p)

@@ -2,4 +2,6 @@
 pub mod Widths
 pub mod Fits
 pub mod Lengths
+pub mod Rows
+pub mod Spare
 pub mod Pieces

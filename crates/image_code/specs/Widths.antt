@@ -1,59 +1,29 @@
--- The widths of the image's head and of a record: they fill their cells, and each is that of a field. Assumes nothing.
-use Prim.Native.Nat.{ℕ, _≤_, _<_}
-use mathlib.Core.Path.{_≡_, refl}
+-- The widths of the image's head, and of a record in the form that is served: they fill their cells, and each is that of a field. Assumes nothing.
+use Prim.Native.Nat.{ℕ, _+_, _-_, _*_, _/_, _^_, _≤_, _<_}
+use mathlib.Core.Path.{_≡_, refl, sym, ap, _∙_}
 use mathlib.Core.Bool.{Bool, true, _&&_}
-use mathlib.Core.List.{List, [], _∷_, _++_}
+use mathlib.Core.List.{List, _++_}
+use native.Mathlib.Omega.{arith}
 use borrow.Author.Tests.{leb-true}
 use lib.Dec.{leb}
-use lib.ListN.{length, getD, replicate}
+use lib.ListN.{length, getD, take}
+use lib.Seq.{take-at}
 use Rattle.combine.specs.Below.{allBelow}
 use Rattle.combine.specs.laws.Below.{all-at, left-of, right-of}
-use Rattle.packing.specs.Packing.{sum}
+use Rattle.packing.specs.Packing.{rowOf, sum, unpacked}
 use Rattle.packing_rows.specs.Waiting.{Narrow}
-use Rattle.image.specs.Image.{headWidths, recordWidths}
+use Rattle.packing_rows.specs.Pack.{unpacked-length}
+use Rattle.packing_rows.specs.Two.{unpacked-append}
+use Rattle.placing.specs.Sizes.{recordLength}
+use Rattle.image.specs.Image.{served, headWidths, recordWidths, rowWidths, unpackedRecord}
 
 pub head-sum : sum headWidths ≡ 32
 unfolding sum headWidths
 head-sum = refl
 
-pub record-sum : sum recordWidths ≡ 448
-unfolding sum recordWidths
-record-sum = refl
-
--- the fields of a record and then its segment numbers
-unfoldable pub fieldWidths : List ℕ
-fieldWidths = 1 ∷ (replicate 12 6 ++ (3 ∷ 1 ∷ 3 ∷ 24 ∷ 24 ∷ []))
-
-unfoldable pub numberWidths : List ℕ
-numberWidths = replicate 32 10
-
-pub record-two : recordWidths ≡ fieldWidths ++ numberWidths
-unfolding recordWidths fieldWidths numberWidths
-record-two = refl
-
-pub fields-sum : sum fieldWidths ≡ 128
-unfolding sum fieldWidths
-fields-sum = refl
-
-pub numbers-sum : sum numberWidths ≡ 320
-unfolding sum numberWidths
-numbers-sum = refl
-
-pub fields-many : length fieldWidths ≡ 18
-unfolding fieldWidths
-fields-many = refl
-
-pub numbers-many : length numberWidths ≡ 32
-unfolding numberWidths
-numbers-many = refl
-
 pub head-many : length headWidths ≡ 3
 unfolding headWidths
 head-many = refl
-
-pub record-many : length recordWidths ≡ 50
-unfolding recordWidths
-record-many = refl
 
 -- 1 to 32 digits
 narrow : List ℕ → ℕ → Bool
@@ -69,10 +39,24 @@ pub head-narrow : Narrow headWidths
 unfolding narrow allBelow headWidths
 head-narrow = narrow-out headWidths 3 refl
 
-pub fields-narrow : Narrow fieldWidths
-unfolding narrow allBelow fieldWidths
-fields-narrow = narrow-out fieldWidths 18 refl
+pub fields-narrow : Narrow (served .widths)
+unfolding narrow allBelow recordWidths
+fields-narrow = narrow-out (served .widths) recordLength refl
 
-pub numbers-narrow : Narrow numberWidths
-unfolding narrow allBelow numberWidths
-numbers-narrow = narrow-out numberWidths 32 refl
+pub row-narrow : Narrow (rowWidths served)
+unfolding narrow allBelow recordWidths
+row-narrow = narrow-out (rowWidths served) (recordLength + 1) refl
+
+-- the fields are above the zeros
+pub fields-sum : sum (served .widths) ≡ 464
+unfolding sum recordWidths
+fields-sum = refl
+
+pub fields-above : (c : List ℕ) → length c ≡ served .cells → unpacked (served .widths) (rowOf c / 2 ^ (32 * length c - sum (served .widths))) ≡ unpackedRecord served c
+unfolding unpackedRecord sum recordWidths
+fields-above c l =
+    let below : 32 * length c - sum (served .widths) ≡ sum (served .spare) = omega (arith, fields-sum) in
+    let top : List ℕ = unpacked (served .widths) (rowOf c / 2 ^ sum (served .spare)) in
+    ap (λ (n : ℕ). unpacked (served .widths) (rowOf c / 2 ^ n)) below
+    ∙ sym (take-at top (unpacked (served .spare) (rowOf c)) recordLength (unpacked-length (served .widths) _))
+    ∙ ap (take recordLength) (sym (unpacked-append (served .widths) (served .spare) (rowOf c)))

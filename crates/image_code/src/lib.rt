@@ -1,19 +1,21 @@
 // The catalogue image of the tables, and the tables of a catalogue image.
-use image::FIELD_CELLS;
+use image::FORM;
 use image::RECORD_CELLS;
+use image::ROW_LENGTH;
 use placing::PLACES;
 use placing::RECORD_LENGTH;
 use placing::RECORDS_START;
-use tables::layout::RECORD_SEGMENTS;
 ghost use mathlib.Core.Path.{_≡_};
 ghost use mathlib.Core.List.{_++_};
 ghost use Prim.Native.Nat.{_-_, _≤_};
-ghost use lib.ListN.{length, take, drop, replicate};
+ghost use lib.Dec.{eqb};
+ghost use lib.ListN.{length, getD, take, drop, replicate};
+ghost use Rattle.combine.specs.Below.{allBelow};
 ghost use Rattle.combine.specs.Lists.{joined, tab};
-ghost use Rattle.packing.specs.Packing.{packed, unpacked, rowOf, cellsOf};
+ghost use Rattle.packing.specs.Packing.{unpacked, rowOf};
 ghost use Rattle.placing.specs.Sizes.{tablesLength, places, mostSegments, recordLength, openingsStart};
 ghost use Rattle.tables.specs.laws.Sound.{Ranged};
-ghost use Rattle.image.specs.Image.{served, imageLength, headWidths, recordWidths, headImage, recordImage, imageOf, recordFrom, tablesFrom};
+ghost use Rattle.image.specs.Image.{served, imageLength, headWidths, packedRecord, unpackedRecord, headImage, recordImage, imageOf, recordFrom, tablesFrom, sparesb};
 ghost use Rattle.image_code.specs.Fits.{Fits, Writable};
 
 mod widths;
@@ -23,12 +25,15 @@ const SECOND_RECORD: usize = RECORDS_START + RECORD_LENGTH;
 
 const SECOND_IN_IMAGE: usize = 1 + RECORD_CELLS;
 
-// The image's first cell: form 1, the number of segments, zero bits.
+// "16 zero bits at a record's end": the low ones of its last cell, a number below this.
+const SPARE_LIMIT: u32 = 65536;
+
+// The image's first cell: form 2, the number of segments, zero bits.
 fn put_head(segments: u32, out: &mut [u32])
     requires { ⌜ (length (now out) ≡ 1) × (segments ≤ mostSegments) ⌝ }
     ensures { λ _. ⌜ now (out .exit) ≡ headImage served segments ⌝ }
 {
-    let values = [1, segments, 0];
+    let values = [FORM, segments, 0];
     packing_rows::pack(out, &widths::HEAD, &values);
 }
 
@@ -42,27 +47,20 @@ pub fn take_head(cells: &[u32]) -> [u32; 3]
     values
 }
 
-// A record's 50 cells of the tables into its 14 of the image: the fields fill four of them, the segment numbers ten.
+// A record's 50 cells of the tables, and zeros behind them, into its 15 of the image.
 fn pack_record(values: &[u32], out: &mut [u32])
-    requires { ⌜ (length (now values) ≡ recordLength) × (length (now out) ≡ served .cells) × Fits (now values) ⌝ }
-    ensures { λ _. ⌜ now (out .exit) ≡ cellsOf (served .cells) (packed recordWidths (now (values .entry))) ⌝ }
+    requires { ⌜ (length (now values) ≡ recordLength) × (length (now out) ≡ served .cells) × Fits served (now values) ⌝ }
+    ensures { λ _. ⌜ now (out .exit) ≡ packedRecord served (now (values .entry)) ⌝ }
 {
-    packing_rows::pack(
-        &mut out[0..FIELD_CELLS],
-        &widths::FIELDS,
-        &values[0..RECORD_SEGMENTS],
-    );
-    packing_rows::pack(
-        &mut out[FIELD_CELLS..RECORD_CELLS],
-        &widths::NUMBERS,
-        &values[RECORD_SEGMENTS..RECORD_LENGTH],
-    );
+    let mut row = [0u32; ROW_LENGTH];
+    combine::copy_cells(values, &mut row[0..RECORD_LENGTH]);
+    packing_rows::pack(out, &widths::ROW, &row);
 }
 
 // The same for a record that may be unused: "an unused record is all zero", and so are its cells of the image.
 fn put_record(values: &[u32], out: &mut [u32])
-    requires { ⌜ (length (now values) ≡ recordLength) × (length (now out) ≡ served .cells) × Writable (now values) ⌝ }
-    ensures { λ _. ⌜ now (out .exit) ≡ cellsOf (served .cells) (packed recordWidths (now (values .entry))) ⌝ }
+    requires { ⌜ (length (now values) ≡ recordLength) × (length (now out) ≡ served .cells) × Writable served (now values) ⌝ }
+    ensures { λ _. ⌜ now (out .exit) ≡ packedRecord served (now (values .entry)) ⌝ }
 {
     if values[0] == 0 {
         combine::fill_cells(out, 0);
@@ -71,29 +69,31 @@ fn put_record(values: &[u32], out: &mut [u32])
     pack_record(values, out);
 }
 
-// The 50 cells of the record that 14 cells of the image say.
+// The 50 cells of the record that 15 cells of the image say.
 fn unpack_record(cells: &[u32], out: &mut [u32])
     requires { ⌜ (length (now cells) ≡ served .cells) × (length (now out) ≡ recordLength) ⌝ }
-    ensures { λ _. ⌜ now (out .exit) ≡ unpacked recordWidths (rowOf (now (cells .entry))) ⌝ }
+    ensures { λ _. ⌜ now (out .exit) ≡ unpackedRecord served (now (cells .entry)) ⌝ }
 {
-    packing_rows::unpack(
-        &cells[0..FIELD_CELLS],
-        &widths::FIELDS,
-        &mut out[0..RECORD_SEGMENTS],
-    );
-    packing_rows::unpack(
-        &cells[FIELD_CELLS..RECORD_CELLS],
-        &widths::NUMBERS,
-        &mut out[RECORD_SEGMENTS..RECORD_LENGTH],
-    );
+    packing_rows::unpack(cells, &widths::ROW[0..RECORD_LENGTH], out);
+}
+
+// Whether a record's cells of the image are all zero: where it is used the first one is not, and no other is looked at.
+fn is_blank(cells: &[u32]) -> bool
+    requires { ⌜ length (now cells) ≡ served .cells ⌝ }
+    ensures { λ r. ⌜ r ≡ allBelow (length (now (cells .entry))) (λ k. eqb (getD (now (cells .entry)) k 0) 0) ⌝ }
+{
+    if cells[0] != 0 {
+        return false;
+    }
+    combine::all_zero(cells)
 }
 
 // The same where the 50 cells are zero: they stay so for cells that are all zero.
 fn take_record(cells: &[u32], out: &mut [u32])
     requires { ⌜ (length (now cells) ≡ served .cells) × (now out ≡ replicate recordLength 0) ⌝ }
-    ensures { λ _. ⌜ now (out .exit) ≡ unpacked recordWidths (rowOf (now (cells .entry))) ⌝ }
+    ensures { λ _. ⌜ now (out .exit) ≡ unpackedRecord served (now (cells .entry)) ⌝ }
 {
-    if combine::all_zero(cells) {
+    if is_blank(cells) {
         return;
     }
     unpack_record(cells, out);
@@ -127,6 +127,21 @@ fn take_records(image: &[u32], tables: &mut [u32])
         );
         p += 1;
     }
+}
+
+// "every bit called zero here is zero", of those at the records' ends
+pub fn spares_zero(image: &[u32]) -> bool
+    requires { ⌜ length (now image) ≡ imageLength served ⌝ }
+    ensures { λ r. ⌜ r ≡ sparesb served (now (image .entry)) ⌝ }
+{
+    let mut p = 0;
+    while p < PLACES {
+        if image[RECORD_CELLS + RECORD_CELLS * p] % SPARE_LIMIT != 0 {
+            return false;
+        }
+        p += 1;
+    }
+    true
 }
 
 // The image of sound tables.

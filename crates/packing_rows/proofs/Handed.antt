@@ -7,7 +7,7 @@ use native.Mathlib.Nat.{mod-lt, mod-eq-of-lt, le-refl, lt-of-lt-of-le, not-suc-l
 use native.Mathlib.Omega.{arith}
 use native.Mathlib.Decide.{ℕ-discrete}
 use lib.ListN.{length, getD, take, set, length-set}
-use lib.Pow.{pow-pos, pow-mono}
+use lib.Pow.{pow-pos, pow-mono, high}
 use lib.Seq.{take-all, take-set-le, getD-set-same, getD-set-other}
 use Rattle.packing.specs.Packing.{rowOf, sum, packed, unpacked}
 use Rattle.packing_rows.specs.Waiting.{Narrow, Begun, Unpacks}
@@ -104,7 +104,7 @@ module _ (ws cells : List ℕ) (number bits next read cell : ℕ) (begun : Begun
       )
 
 -- what `hand_out` leaves are fewer bits than a cell has
-module _ (ws cells : List ℕ) (narrow : Narrow ws) (fills : sum ws ≡ 32 * length cells) where
+module _ (ws cells : List ℕ) (narrow : Narrow ws) (inside : sum ws ≤ 32 * length cells) (fills : 32 * length cells < sum ws + 32) where
   pub left-few : (bits next read : ℕ) → next ≤ length ws → read ≤ length cells → sum (take next ws) + bits ≡ 32 * read → (next < length ws → bits < getD ws next 0) → bits < 32
   left-few bits next read l r s h = ⊎-elim all some (eq-or-lt-of-le l)
     where
@@ -114,16 +114,17 @@ module _ (ws cells : List ℕ) (narrow : Narrow ws) (fills : sum ws ≡ 32 * len
       some : next < length ws → bits < 32
       some q = omega (arith, h q, narrow next q .1)
 
-  pub handed-done : (ys : List ℕ) (number bits next read : ℕ) → length ys ≡ length ws → read ≡ length cells → Handed ws cells ys number bits next read → ys ≡ unpacked ws (rowOf cells)
+  pub handed-done : (ys : List ℕ) (number bits next read : ℕ) → length ys ≡ length ws → read ≡ length cells → Handed ws cells ys number bits next read
+      → ys ≡ unpacked ws (rowOf cells / 2 ^ (32 * length cells - sum ws))
   handed-done ys number bits next read long e f =
       let n : next ≡ length ws = ⊎-elim (λ q. q) (λ q. absurd (more q)) (eq-or-lt-of-le (f .0 .0)) in
       let ws-all : take next ws ≡ ws = take-all next ws (omega arith) in
       let ys-all : take next ys ≡ ys = take-all next ys (omega arith) in
-      let b : bits ≡ 0 = omega (arith, f .2, ap sum ws-all) in
-      let v : number < 2 ^ 0 = subst (λ (y : ℕ). number < 2 ^ y) b (f .0 .2) in
-      let row : rowOf cells ≡ packed ws ys =
-      ap rowOf (sym (take-all read cells (omega arith))) ∙ f .4 .1 ∙ (λ j. packed (ws-all j) (ys-all j) * 2 ^ b j + number) ∙ omega arith in
-      sym (ap (unpacked ws) row ∙ unpack-packed ws ys long ∙ trimmed-same ws ys long (λ i l. f .4 .0 i (omega arith)))
+      let b : 32 * length cells - sum ws ≡ bits = omega (arith, f .2, ap sum ws-all) in
+      let row : rowOf cells ≡ packed ws ys * 2 ^ bits + number =
+      ap rowOf (sym (take-all read cells (omega arith))) ∙ f .4 .1 ∙ (λ j. packed (ws-all j) (ys-all j) * 2 ^ bits + number) in
+      let top : rowOf cells / 2 ^ (32 * length cells - sum ws) ≡ packed ws ys = (λ j. row j / 2 ^ b j) ∙ high (packed ws ys) bits (f .0 .2) in
+      sym (ap (unpacked ws) top ∙ unpack-packed ws ys long ∙ trimmed-same ws ys long (λ i l. f .4 .0 i (omega arith)))
     where
       more : next < length ws → ⊥
       more q = omega (arith, f .2, f .3 q, sum-at ws next q)

@@ -1,6 +1,6 @@
 // Numbers of 1 to 32 bits, one after the other, in a row of cells: most significant first, across a cell's end too.
 ghost use mathlib.Core.Path.{_≡_};
-ghost use Prim.Native.Nat.{ℕ, _+_, _*_, _≤_, _<_};
+ghost use Prim.Native.Nat.{ℕ, _+_, _-_, _*_, _/_, _^_, _≤_, _<_};
 ghost use lib.ListN.{length, getD, take};
 ghost use Rattle.packing.specs.Packing.{rowOf, cellsOf, sum, packed, unpacked};
 ghost use Rattle.packing_rows.specs.Waiting.{Narrow, Fitting, Begun, Packs, Unpacks};
@@ -94,10 +94,11 @@ fn hand_out(widths: &[u32], values: &mut [u32], waiting: Waiting) -> Waiting
     }
 }
 
-// The numbers, each in its width, that fill the cells.
+// The numbers, each in its width, that the cells begin with; fewer bits than a cell has may be left over.
 pub fn unpack(cells: &[u32], widths: &[u32], values: &mut [u32])
-    requires { ⌜ Narrow (now widths) × (length (now values) ≡ length (now widths)) × (sum (now widths) ≡ 32 * length (now cells)) ⌝ }
-    ensures { λ _. ⌜ now (values .exit) ≡ unpacked (now (widths .entry)) (rowOf (now (cells .entry))) ⌝ }
+    requires { ⌜ Narrow (now widths) × (length (now values) ≡ length (now widths)) ⌝ }
+    requires { ⌜ (sum (now widths) ≤ 32 * length (now cells)) × (32 * length (now cells) < sum (now widths) + 32) ⌝ }
+    ensures { λ _. ⌜ now (values .exit) ≡ unpacked (now (widths .entry)) (rowOf (now (cells .entry)) / 2 ^ (32 * length (now (cells .entry)) - sum (now (widths .entry)))) ⌝ }
 {
     let mut number: u64 = 0;
     let mut bits: u32 = 0;

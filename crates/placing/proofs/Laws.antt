@@ -1,11 +1,14 @@
 -- What the sums of the placing rules' code are, in plain numbers. Assumes nothing.
-use mathlib.Core.Path.{_≡_, refl, sym, ap, subst}
+use mathlib.Core.Path.{_≡_, refl, sym, ap, subst, _∙_}
+use mathlib.Core.Logic.{⊎-elim}
 use Prim.Native.Nat.{ℕ, _+_, _-_, _*_, _/_, _%_, _≤_, _<_}
-use native.Mathlib.Nat.{div-mul-le-self, lt-mul-div-succ, div-le-self, mul-comm, add-mul}
+use native.Mathlib.Nat.{div-le-self, div-add-mod, mod-lt, mul-comm, add-mul, mul-le-mul-right}
 use native.Mathlib.Omega.{arith}
 use borrow.Author.Tests.{lt-ltb, le-ltb}
-use Rattle.placing.specs.Sizes.{greatestEnd, greatestSpecies, widthOf, elementsOf}
+use Rattle.combine.specs.laws.Numbers.{le-or-lt}
+use Rattle.placing.specs.Sizes.{mostHeld, greatestSpecies, widthOf, elementsOf}
 use Rattle.placing.specs.laws.Sized.{sized, elements-many, offset-bits, stretch-mono}
+use Rattle.placing.specs.laws.Held as file
 use Rattle.placing.specs.Placing.{stretchOf, offsetOf, heldOf, claimOf, slotOf}
 
 module _ (s : ℕ) (h : s ≤ greatestSpecies) where
@@ -36,21 +39,29 @@ module _ (s : ℕ) (h : s ≤ greatestSpecies) where
   unfolding slotOf stretchOf
   place-fits b x n l q = omega (arith, div-le-self (x - 1) (elementsOf s))
 
-  pub stretch-fits : (e q : ℕ) → e ≤ greatestEnd → q ≡ stretchOf s (e - 1) → q + 1 < 4294967296
-  unfolding stretchOf
-  stretch-fits e q m eq = omega (arith, div-le-self (e - 1 - 1) (elementsOf s))
+  -- a file that holds something is not empty
+  pub claim-empty : (b e n : ℕ) → b ≤ e → n ≡ heldOf s b e → n ≡ 0 → 0 ≡ claimOf s b e
+  claim-empty b e n l q z = ⊎-elim (λ m. claim-none b e (omega arith)) (λ m. absurd (let y : ⊥ = omega (arith, file.held-some s b e m) in y)) (le-or-lt e b)
 
-  pub claim-some : (b e q E : ℕ) → 1 ≤ b → b < e → e ≤ greatestEnd → q ≡ stretchOf s (e - 1) → E ≡ elementsOf s
-      → ((q + 1) * E < 4294967295) × (b ≤ (q + 1) * E + 1) × ((q + 1) * E + 1 - b ≡ claimOf s b e)
+  pub claim-some : (b e n E : ℕ) → 1 ≤ b → b ≤ e → n ≡ heldOf s b e → (n ≡ 0 → ⊥) → n ≤ mostHeld → E ≡ elementsOf s
+      → (n * E < 4294967296) × ((b - 1) % E ≤ n * E) × (n * E - (b - 1) % E ≡ claimOf s b e)
   unfolding claimOf stretchOf
-  claim-some b e q E hb l m eq eE =
-      let n : ℕ = e - 1 - 1 in
+  claim-some b e n E hb l en some most eE =
       let k : ℕ = elementsOf s in
+      let sz = sized s h in
       let many = elements-many s h in
-      let below : n / k * k ≤ n = div-mul-le-self n k in
-      let above : n < k * (n / k + 1) = lt-mul-div-succ n (omega arith) in
-      let one : (q + 1) * E ≡ (n / k + 1) * k = λ i. (eq i + 1) * eE i in
-      let two : (n / k + 1) * k ≡ n / k * k + 1 * k = add-mul (n / k) 1 k in
-      let three : k * (n / k + 1) ≡ (n / k + 1) * k = mul-comm k (n / k + 1) in
-      let few = sized s h .few in
-      (omega arith, omega arith, rw (lt-ltb b e l) (ap (λ (y : ℕ). y + 1 - b) one))
+      let few = sz .few in
+      let m : b < e = ⊎-elim (λ z. absurd (some (en ∙ sym (held-none b e (omega arith))))) (λ z. z) (le-or-lt e b) in
+      let held = file.held-some s b e m in
+      let mono = stretch-mono s h b (e - 1) (omega arith) in
+      let q : ℕ = (b - 1) / k in
+      let last : (e - 1 - 1) / k + 1 ≡ n + q = omega arith in
+      let parts : (n + q) * k ≡ n * k + q * k = add-mul n q k in
+      let first : k * q + (b - 1) % k ≡ b - 1 = div-add-mod (b - 1) k in
+      let turned : k * q ≡ q * k = mul-comm k q in
+      let off : (b - 1) % k < k = mod-lt (b - 1) (omega arith) in
+      let whole : 1 * k ≤ n * k = mul-le-mul-right {m = 1} {n = n} k (omega arith) in
+      let room : n * k ≤ 32 * k = mul-le-mul-right {m = n} {n = 32} k (omega arith) in
+      let big : ((e - 1 - 1) / k + 1) * k ≡ n * k + q * k = ap (λ (y : ℕ). y * k) last ∙ parts in
+      subst (λ (y : ℕ). (n * y < 4294967296) × ((b - 1) % y ≤ n * y) × (n * y - (b - 1) % y ≡ claimOf s b e)) (sym eE)
+      (omega arith, omega arith, sym (rw (lt-ltb b e m) (omega arith)))

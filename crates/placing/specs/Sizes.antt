@@ -50,9 +50,9 @@ freshSegments cells = min mostSegments (cells / segmentCells)
 abbrev pub mostHeld : ℕ
 mostHeld = 32
 
--- "The begin and end values are 1 to 16,777,215."
+-- "The begin and end values are 1 to 16,777,215."; document 02, P6: "Raise the begin and end limit to 4,294,967,295."
 abbrev pub greatestEnd : ℕ
-greatestEnd = 16777215
+greatestEnd = 4294967295
 
 -- "Species 0 to 5 have elements of 1, 2, 4, 8, 16 and 32 bits, so E = 2048, 1024, 512, 256, 128 and 64 elements in a segment."; document 02, P5:
 -- "Add species 6: signed temperatures .. in 16 bits, .. E = 128."

@@ -2,7 +2,7 @@
 // private field, and one is made of another by the placing rules alone.
 ghost use mathlib.Core.Path.{_≡_};
 ghost use Prim.Native.Nat.{_≤_, _<_, _*_};
-ghost use Rattle.placing.specs.Sizes.{segmentCells, greatestEnd, greatestSpecies, widthOf, elementsOf, leastElements};
+ghost use Rattle.placing.specs.Sizes.{segmentCells, mostHeld, greatestEnd, greatestSpecies, widthOf, elementsOf, leastElements};
 ghost use Rattle.placing.specs.Placing.{
   segment,
   position,
@@ -73,8 +73,8 @@ pub const WIDTHS: [u32; 7] = [1, 2, 4, 8, 16, 32, 16];
 // "so E = 2048, 1024, 512, 256, 128 and 64 elements in a segment"; of species 6, "E = 128"
 pub const ELEMENTS: [u32; 7] = [2048, 1024, 512, 256, 128, 64, 128];
 
-// "The begin and end values are 1 to 16,777,215."
-pub const GREATEST_END: u32 = 16777215;
+// "Raise the begin and end limit to 4,294,967,295" (document 02, P6)
+pub const GREATEST_END: u32 = 4294967295;
 
 // "A file holds at most 32 segments."
 pub const MOST_HELD: u32 = 32;
@@ -204,17 +204,18 @@ pub fn held(species: u32, begin: Position, end: Position) -> u32
     last.slot(begin, species) + 1
 }
 
-// "The claim is the number of positions from b to the end of the last held stretch, 0 for an empty file."
+// "The claim is the number of positions from b to the end of the last held stretch, 0 for an empty file.": those of the held stretches but for
+// the first one's before b, as the end of the last may lie beyond every position.
 pub fn claim(species: u32, begin: Position, end: Position) -> u32
     requires { ⌜ (species ≤ greatestSpecies) × (1 ≤ begin .0) × (begin .0 ≤ end .0) × (end .0 ≤ greatestEnd) ⌝ }
+    requires { ⌜ heldOf species (begin .0) (end .0) ≤ mostHeld ⌝ }
     ensures { λ r. ⌜ r ≡ claimOf species (begin .0) (end .0) ⌝ }
 {
     let first = begin.0;
-    let beyond = end.0;
-    if first == beyond {
+    let stretches = held(species, begin, end);
+    if stretches == 0 {
         return 0;
     }
-    let greatest = Position(beyond - 1);
-    let stretches = greatest.stretch(species) + 1;
-    stretches * elements(species) + 1 - first
+    let size = elements(species);
+    stretches * size - (first - 1) % size
 }

@@ -1,6 +1,6 @@
 // Positions in their order: a pointer's value is tested, and moves by one.
 ghost use mathlib.Core.Path.{_≡_};
-ghost use Prim.Native.Nat.{_≤_, _+_, _-_};
+ghost use Prim.Native.Nat.{_≤_, _<_, _+_, _-_};
 ghost use lib.Dec.{leb, ltb, eqb};
 ghost use Rattle.placing.specs.Sizes.{greatestEnd};
 use crate::GREATEST_END;
@@ -33,7 +33,7 @@ impl Position {
         self.0 <= other.0
     }
 
-    // Whether no end is beyond it: "An append refused for 10: e is 16,777,215."
+    // Whether no end is beyond it: an append is refused for 10 there.
     pub fn is_last(self) -> bool
         ensures { λ r. ⌜ r ≡ leb greatestEnd (self .0) ⌝ }
     {
@@ -42,7 +42,7 @@ impl Position {
 
     // "v grows by 1"
     pub fn after(self) -> Position
-        requires { ⌜ self .0 ≤ greatestEnd ⌝ }
+        requires { ⌜ self .0 < greatestEnd ⌝ }
         ensures { λ r. ⌜ r .0 ≡ self .0 + 1 ⌝ }
     {
         Position(self.0 + 1)

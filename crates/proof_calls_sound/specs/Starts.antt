@@ -46,4 +46,4 @@ module _ (s t : List ℕ) where
 
 pub image-sound : (cells : ℕ) (img : List ℕ) → imageb served cells img ≡ true → soundb cells (tablesFrom served img) ≡ true
 unfolding imageb
-image-sound cells img ok = each-of _ ok .1 .1 .1 .0
+image-sound cells img ok = each-of _ ok .1 .1 .1 .1 .0

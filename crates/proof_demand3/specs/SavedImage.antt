@@ -11,7 +11,7 @@ use Rattle.rules.specs.House.{closedDown, freshHouse}
 use Rattle.segments.specs.State.{State}
 use Rattle.tables.specs.Sound.{soundb}
 use Rattle.tables.specs.laws.Sound.{ranged-of}
-use Rattle.image.specs.Image.{served, imageOf, imageb, tablesFrom}
+use Rattle.image.specs.Image.{served, imageLength, imageOf, imageb, tablesFrom}
 use Rattle.cells.specs.Says.{houseOf}
 use Rattle.cells.specs.Outcomes.{Lent, Saved, callImage}
 use Rattle.proof_images.specs.Closed.{closed-says}
@@ -51,14 +51,14 @@ tables-say = after-says (freshHouse 8192) makesFileA houseWithA leads-to-a (star
 -- ---- the image
 
 image-so : imageOf served tables ≡ imageWithA
-image-so = after-image (freshHouse 8192) makesFileA houseWithA leads-to-a (startedOver 8192) (started-sound 8192 refl) start-says ∙ packed-a
+image-so = after-image (freshHouse 8192) makesFileA houseWithA leads-to-a (startedOver 8192) (started-sound 8192 refl) start-says served ∙ packed-a
 
 -- a save that is lent a buffer writes it there
 abbrev pub buffer : List ℕ
-buffer = replicate 897 0
+buffer = replicate (imageLength served) 0
 
 pub saved-so : callImage (asks (save buffer)) (cellsWithA .store) (cellsWithA .tables) ≡ imageWithA
-saved-so = ap (λ (o : Outcome Saved). o .after .image) (save-done (cellsWithA .store) tables buffer cells-sound (length-replicate {A = ℕ} 897 0)) ∙ image-so
+saved-so = ap (λ (o : Outcome Saved). o .after .image) (save-done (cellsWithA .store) tables buffer cells-sound (length-replicate {A = ℕ} (imageLength served) 0)) ∙ image-so
 
 pub image-sound : imageb served 8192 imageWithA ≡ true
 image-sound = subst (λ (img : List ℕ). imageb served 8192 img ≡ true) image-so (saved-sound 8192 tables tables-sound)

@@ -18,10 +18,11 @@ use Rattle.rules.specs.House.{house, freshHouse}
 use Rattle.segments.specs.Free.{SegmentRecord, SegmentHouse}
 use Rattle.segments.specs.Moves.{isListed, listedCount, tidyCount}
 use Rattle.examples.specs.Holding.{Holds, AllHold}
-use Rattle.examples.specs.Examples.{lift7, lift, ten, notCut, claims, appends, ownPointer, savedFresh, bytesOfA, makesFileA, imageWithA, savedFile, givenUp, runsAnswered, runsTold, startsAtTheEnd, bytesOfB, looksAbsent, removesA, tidies, degrees, worked}
+use Rattle.image.specs.Image.{form1, served}
+use Rattle.examples.specs.Examples.{lift7, lift, ten, notCut, claims, lastClaim, appends, ownPointer, savedFresh, bytesOfA, makesFileA, imageWithA, savedFile, printedFresh, printedFile, givenUp, runsAnswered, runsTold, startsAtTheEnd, bytesOfB, looksAbsent, removesA, tidies, degrees, worked}
 use Rattle.proof_examples.specs.OnSegments.{stateAfter}
 use Rattle.proof_examples.specs.Known.{answersKnown, answers-after, gives-after, runsKnown, runs-after}
-use Rattle.proof_examples.specs.Saved.{imageBy, Leads, saves-after}
+use Rattle.proof_examples.specs.Saved.{imageBy, Leads, packs-after, saves-after}
 use Rattle.proof_examples.specs.Tidied.{answers-tidied}
 
 -- ---- numbers
@@ -41,6 +42,10 @@ ten-holds = refl
 claims-holds : Holds claims
 unfolding heldOf claimOf stretchOf elementsOf
 claims-holds = refl
+
+last-claim-holds : Holds lastClaim
+unfolding heldOf claimOf stretchOf elementsOf
+last-claim-holds = refl
 
 -- ---- answers
 
@@ -84,14 +89,23 @@ runs-told-holds = runs-after segmentCells _ _ refl tt refl
 
 -- ---- saved: fresh with 128 segments
 
-packed-fresh : imageBy (freshHouse (segmentCells * 128)) ≡ 0x01100000 ∷ replicate 896 0
+leads-to-fresh : Leads (freshHouse (segmentCells * 128)) [] (freshHouse (segmentCells * 128))
+unfolding stateAfter
+leads-to-fresh = record { going = tt; leads = λ s. refl }
+
+packed-fresh : imageBy served (freshHouse (segmentCells * 128)) ≡ 0x02100000 ∷ replicate 960 0
 unfolding imageBy
 packed-fresh = refl
 
 saved-fresh-holds : Holds savedFresh
-unfolding stateAfter
-saved-fresh-holds =
-    saves-after (segmentCells * 128) [] (freshHouse (segmentCells * 128)) _ refl (record { going = tt; leads = λ s. refl }) packed-fresh
+saved-fresh-holds = saves-after (segmentCells * 128) [] (freshHouse (segmentCells * 128)) _ refl leads-to-fresh packed-fresh
+
+printed-fresh : imageBy form1 (freshHouse (segmentCells * 128)) ≡ 0x01100000 ∷ replicate 896 0
+unfolding imageBy
+printed-fresh = refl
+
+printed-fresh-holds : Holds printedFresh
+printed-fresh-holds = packs-after (segmentCells * 128) [] (freshHouse (segmentCells * 128)) _ refl leads-to-fresh form1 printed-fresh
 
 -- ---- and with the private file "a" of user 2, species 5, b = 1, e = 2, segment 0
 
@@ -105,12 +119,19 @@ pub leads-to-a : Leads (freshHouse (segmentCells * 128)) makesFileA houseWithA
 unfolding stateAfter
 leads-to-a = record { going = tt; leads = λ s. refl }
 
-pub packed-a : imageBy houseWithA ≡ imageWithA
+pub packed-a : imageBy served houseWithA ≡ imageWithA
 unfolding imageBy stateAfter
 packed-a = refl
 
 pub saved-file-holds : Holds savedFile
 saved-file-holds = saves-after (segmentCells * 128) makesFileA houseWithA imageWithA refl leads-to-a packed-a
+
+printed-a : imageBy form1 houseWithA ≡ 0x01100000 ∷ 0x95FFFFFF ∷ 0xFFFFFFFF ∷ 0xFFAD0000 ∷ 0x01000002 ∷ replicate 892 0
+unfolding imageBy stateAfter
+printed-a = refl
+
+printed-file-holds : Holds printedFile
+printed-file-holds = packs-after (segmentCells * 128) makesFileA houseWithA _ refl leads-to-a form1 printed-a
 
 -- ---- tidied: "b" of user 2 is at place 1, in segment 1
 
@@ -134,4 +155,4 @@ tidies-holds = answers-tidied (segmentCells * 3) removesA _ houseWithB refl lead
 
 pub worked-hold : AllHold worked
 worked-hold =
-    (lift7-holds, (lift-holds, (ten-holds, (not-cut-holds, (claims-holds, (appends-holds, (own-pointer-holds, (saved-fresh-holds, (saved-file-holds, (given-up-holds, (runs-answered-holds, (runs-told-holds, (starts-at-the-end-holds, (looks-absent-holds, (tidies-holds, (degrees-hold, tt))))))))))))))))
+    (lift7-holds, (lift-holds, (ten-holds, (not-cut-holds, (claims-holds, (last-claim-holds, (appends-holds, (own-pointer-holds, (saved-fresh-holds, (saved-file-holds, (printed-fresh-holds, (printed-file-holds, (given-up-holds, (runs-answered-holds, (runs-told-holds, (starts-at-the-end-holds, (looks-absent-holds, (tidies-holds, (degrees-hold, tt)))))))))))))))))))

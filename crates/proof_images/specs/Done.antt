@@ -1,5 +1,5 @@
 -- What a save and a load that are done leave. Assumes nothing.
-use Prim.Native.Nat.{ℕ, _*_, _≤_}
+use Prim.Native.Nat.{ℕ, _*_, _≤_, _<_}
 use mathlib.Core.Path.{_≡_, refl, sym, ap, _∙_}
 use mathlib.Core.Bool.{true}
 use mathlib.Core.List.{List}
@@ -13,13 +13,14 @@ use Rattle.placing.specs.Sizes.{segmentCells, tablesLength}
 use Rattle.rules.specs.Gates.{startGate, imageGate}
 use Rattle.tables.specs.Layout.{segmentsIn}
 use Rattle.tables.specs.Sound.{numberb, soundb}
-use Rattle.tables.specs.laws.Sound.{ranged-of}
-use Rattle.image.specs.Image.{served, imageLength, imageOf, headField, tablesFrom, imageb}
+use Rattle.tables.specs.laws.Sound.{Ranged, ranged-of}
+use Rattle.image.specs.Image.{served, imageLength, imageOf, headField, tablesFrom, sparesb, imageb}
+use Rattle.image.specs.laws.Formed.{formed-served}
 use Rattle.cells.specs.Outcomes.{lent, loadOut, saved, saveOut}
 use Rattle.proof_images.specs.Closed.{closed}
 use Rattle.proof_images.specs.Sound.{closed-sound}
 use Rattle.image_code.specs.Fits.{records-fit}
-use Rattle.proof_images.specs.Images.{image-field, image-length, tables-again}
+use Rattle.proof_images.specs.Images.{image-field, image-length, spares-again, tables-again}
 
 -- "A number fits a store of at least 64 times as many cells", and there is one segment at least
 room : (cells : ℕ) (t : List ℕ) → soundb cells t ≡ true → segmentCells ≤ cells
@@ -33,8 +34,9 @@ room cells t ok =
 -- what a sound image says
 pub record SoundImage (cells : ℕ) (img : List ℕ) : Type 0 where
   pub long : length img ≡ imageLength served
-  pub form : headField img 0 ≡ 1
+  pub form : headField img 0 ≡ served .number
   pub zeros : headField img 2 ≡ 0
+  pub spares : sparesb served img ≡ true
   pub sound : soundb cells (tablesFrom served img) ≡ true
 
 pub imageb-facts : (cells : ℕ) (img : List ℕ) → imageb served cells img ≡ true → SoundImage cells img
@@ -43,9 +45,10 @@ imageb-facts cells img ok =
     let f = each-of _ ok in
     record {
       long = eqb-true (length img) (imageLength served) (f .0);
-      form = eqb-true (headField img 0) 1 (f .1 .0);
+      form = eqb-true (headField img 0) (served .number) (f .1 .0);
       zeros = eqb-true (headField img 2) 0 (f .1 .1 .0);
-      sound = f .1 .1 .1 .0;
+      spares = f .1 .1 .1 .0;
+      sound = f .1 .1 .1 .1 .0;
     }
 
 pub save-done : (s t img : List ℕ) → soundb (length s) t ≡ true → length img ≡ imageLength served → saveOut s t img ≡ outcomeOf (done 0) (saved s t (imageOf served t))
@@ -60,19 +63,25 @@ load-done s t img l ok =
 -- ---- the image of sound tables
 
 module _ (cells : ℕ) (t : List ℕ) (ok : soundb cells t ≡ true) where
+  ranged : Ranged t
+  ranged = ranged-of cells t ok
+
+  few : segmentsIn t < 2048
+  few = omega (arith, ranged .3)
+
   pub saved-again : tablesFrom served (imageOf served t) ≡ closed t
-  saved-again =
-      let r = ranged-of cells t ok in
-      tables-again t (r .0) (omega (arith, r .3)) (records-fit t r)
+  saved-again = tables-again served formed-served t (ranged .0) few (records-fit t ranged)
 
   pub saved-sound : imageb served cells (imageOf served t) ≡ true
   unfolding imageb
   saved-sound =
-      let few = ranged-of cells t ok .3 in
       sym (all-good _ (
-        eq-eqb (length (imageOf served t)) (imageLength served) (image-length t),
+        eq-eqb (length (imageOf served t)) (imageLength served) (image-length served formed-served t),
         (
-          eq-eqb (headField (imageOf served t) 0) 1 (image-field t (omega arith) 0),
-          (eq-eqb (headField (imageOf served t) 2) 0 (image-field t (omega arith) 2), (ap (soundb cells) saved-again ∙ closed-sound cells t ok, tt)),
+          eq-eqb (headField (imageOf served t) 0) (served .number) (image-field served formed-served t few 0),
+          (
+            eq-eqb (headField (imageOf served t) 2) 0 (image-field served formed-served t few 2),
+            (spares-again served formed-served t (ranged .0) few (records-fit t ranged), (ap (soundb cells) saved-again ∙ closed-sound cells t ok, tt)),
+          ),
         ),
       ))

@@ -1,38 +1,31 @@
--- An image of tables gives the tables back, and tables of an image give the image back. Assumes nothing.
+-- An image of tables gives the tables back, and tables of an image give the image back, in every form. Assumes nothing.
 use Prim.Native.Nat.{ℕ, suc, _+_, _-_, _*_, _≤_, _<_}
+use native.Mathlib.Nat.{mul-comm, mul-suc, mul-le-mul-left}
 use mathlib.Core.Path.{_≡_, refl, sym, ap, _∙_}
+use mathlib.Core.Bool.{true}
 use mathlib.Core.List.{List, [], _∷_, _++_, append-nil}
 use native.Mathlib.Omega.{arith}
-use lib.ListN.{length, getD, take, replicate, length-append}
-use lib.Seq.{take-at, take-add, take-all}
+use borrow.Author.Tests.{eqb-true, eq-eqb}
+use lib.ListN.{length, getD, take, drop, replicate, length-append, length-replicate, length-drop, getD-replicate, take-append-drop}
+use lib.Seq.{take-at, take-add, take-all, getD-drop, ext-getD}
+use Rattle.combine.specs.laws.Below.{all-at, all-make}
 use Rattle.combine.specs.Lists.{part, joined, tab}
 use Rattle.combine.specs.laws.Lists.{tab-cong}
 use Rattle.combine.specs.laws.Parts.{length-part}
 use Rattle.packing.specs.Packing.{packed, unpacked, rowOf, cellsOf}
 use Rattle.placing.specs.Sizes.{places, tablesLength, recordLength, recordsStart, openingsStart}
 use Rattle.tables.specs.Layout.{recordBase, segmentsIn, noneOpen}
-use Rattle.image.specs.Image.{served, imageLength, headWidths, recordWidths, headImage, recordImage, imageOf, headField, recordFrom, tablesFrom}
+use Rattle.image.specs.Image.{Form, imageLength, headWidths, rowWidths, headImage, packedRecord, recordImage, imageOf, headField, recordPart, unpackedRecord, recordFrom, tablesFrom, spareb, sparesb}
+use Rattle.image.specs.laws.Formed.{Formed}
 use Rattle.packing_rows.specs.Cells.{Cells, part-cells}
 use Rattle.packing_rows.specs.Pack.{unpacked-length}
 use Rattle.packing_rows.specs.Whole.{packed-back, cells-back}
-use Rattle.image_code.specs.Widths.{head-sum, record-sum, head-many, record-many}
-use Rattle.image_code.specs.Lengths.{head-length, record-image-length, record-from-length}
+use Rattle.image_code.specs.Widths.{head-sum, head-many}
+use Rattle.image_code.specs.Lengths.{head-length, record-image-length, row-long, record-from-length}
 use Rattle.image_code.specs.Pieces.{pieces-part, pieces-length, piece-at}
-use Rattle.proof_images.specs.Closed.{closed}
 use Rattle.image_code.specs.Fits.{Fits, head-fits}
-
--- ---- the head
-
-head-back : (n : ℕ) → n < 2048 → unpacked headWidths (rowOf (headImage served n)) ≡ 1 ∷ n ∷ 0 ∷ []
-unfolding headImage
-head-back n h = packed-back headWidths 1 head-sum (1 ∷ n ∷ 0 ∷ []) (sym head-many) (head-fits n h)
-
-three : (xs : List ℕ) → length xs ≡ 3 → getD xs 0 0 ≡ 1 → getD xs 2 0 ≡ 0 → 1 ∷ getD xs 1 0 ∷ 0 ∷ [] ≡ xs
-three [] e p q = absurd (let z : ⊥ = omega arith in z)
-three (x ∷ []) e p q = absurd (let z : ⊥ = omega arith in z)
-three (x ∷ y ∷ []) e p q = absurd (let z : ⊥ = omega arith in z)
-three (x ∷ y ∷ z ∷ []) e p q = λ j. sym p j ∷ y ∷ sym q j ∷ []
-three (x ∷ y ∷ z ∷ w ∷ xs) e p q = absurd (let z : ⊥ = omega arith in z)
+use Rattle.image_code.specs.Rows.{zerosOf, zero-behind, row-length, row-fits}
+use Rattle.proof_images.specs.Closed.{closed}
 
 -- ---- parts
 
@@ -45,66 +38,123 @@ unfolding part
 first-more [] n h = absurd (let z : ⊥ = omega arith in z)
 first-more (x ∷ t) n h = refl
 
--- ---- the image of tables
+three : (n : ℕ) (xs : List ℕ) → length xs ≡ 3 → getD xs 0 0 ≡ n → getD xs 2 0 ≡ 0 → n ∷ getD xs 1 0 ∷ 0 ∷ [] ≡ xs
+three n [] e p q = absurd (let z : ⊥ = omega arith in z)
+three n (x ∷ []) e p q = absurd (let z : ⊥ = omega arith in z)
+three n (x ∷ y ∷ []) e p q = absurd (let z : ⊥ = omega arith in z)
+three n (x ∷ y ∷ z ∷ []) e p q = λ j. sym p j ∷ y ∷ sym q j ∷ []
+three n (x ∷ y ∷ z ∷ w ∷ xs) e p q = absurd (let z : ⊥ = omega arith in z)
 
-module _ (t : List ℕ) where
-  image-head : part (imageOf served t) 0 1 ≡ headImage served (segmentsIn t)
-  unfolding imageOf
-  image-head = head-part (headImage served (segmentsIn t)) _ (head-length (segmentsIn t))
+module _ (f : Form) (w : Formed f) where
+  -- ---- the head, and a record
 
-  pub image-field : segmentsIn t < 2048 → (k : ℕ) → headField (imageOf served t) k ≡ getD (1 ∷ segmentsIn t ∷ 0 ∷ []) k 0
-  unfolding headField
-  image-field h k = ap (λ (x : List ℕ). getD (unpacked headWidths (rowOf x)) k 0) image-head ∙ ap (λ (x : List ℕ). getD x k 0) (head-back (segmentsIn t) h)
+  head-back : (n : ℕ) → n < 2048 → unpacked headWidths (rowOf (headImage f n)) ≡ f .number ∷ n ∷ 0 ∷ []
+  unfolding headImage
+  head-back n h = packed-back headWidths 1 head-sum (f .number ∷ n ∷ 0 ∷ []) (sym head-many) (head-fits f w n h)
 
-  pub image-length : length (imageOf served t) ≡ imageLength served
-  unfolding imageOf
-  image-length =
-      length-append (headImage served (segmentsIn t)) (joined (tab places (recordImage served t)))
-      ∙ (λ j. head-length (segmentsIn t) j + pieces-length (recordImage served t) 14 (record-image-length t) places j)
+  record-back : (c : List ℕ) → length c ≡ recordLength → Fits f c → unpacked (rowWidths f) (rowOf (packedRecord f c)) ≡ c ++ zerosOf f
+  unfolding packedRecord
+  record-back c l h = packed-back (rowWidths f) (f .cells) (w .full) (c ++ zerosOf f) (row-length f w c l) (row-fits f w c l h)
 
-  image-piece : (p : ℕ) → p < places → part (imageOf served t) (1 + 14 * p) 14 ≡ recordImage served t p
-  unfolding imageOf
-  image-piece p lp =
-      let h : List ℕ = headImage served (segmentsIn t) in
-      let rs : List ℕ = joined (tab places (recordImage served t)) in
-      (λ j. part (h ++ sym (append-nil rs) j) (sym (head-length (segmentsIn t)) j + 14 * p) 14)
-      ∙ piece-at (recordImage served t) 14 (record-image-length t) h [] places p lp
+  -- ---- the image of tables
 
-  module _ (long : length t ≡ tablesLength) (few : segmentsIn t < 2048) (fits : (p : ℕ) → p < places → Fits (part t (recordBase p) recordLength)) where
-    record-again : (p : ℕ) → p < places → recordFrom served (imageOf served t) p ≡ part t (recordBase p) recordLength
-    unfolding recordFrom recordImage
-    record-again p lp =
-        let l : length (part t (recordBase p) recordLength) ≡ recordLength = length-part t (recordBase p) recordLength (omega arith) in
-        ap (λ (x : List ℕ). unpacked recordWidths (rowOf x)) (image-piece p lp)
-        ∙ packed-back recordWidths 14 record-sum (part t (recordBase p) recordLength) (l ∙ sym record-many) (λ k h. fits p lp k (omega (arith, h, record-many)))
+  module _ (t : List ℕ) where
+    image-head : part (imageOf f t) 0 1 ≡ headImage f (segmentsIn t)
+    unfolding imageOf
+    image-head = head-part (headImage f (segmentsIn t)) _ (head-length f (segmentsIn t))
 
-    pub tables-again : tablesFrom served (imageOf served t) ≡ closed t
-    unfolding tablesFrom closed
-    tables-again =
-        let rs : joined (tab places (recordFrom served (imageOf served t))) ≡ part t recordsStart (openingsStart - 1) =
-        ap joined (tab-cong places (λ p. part t (recordBase p) recordLength) (recordFrom served (imageOf served t)) record-again) ∙ pieces-part t recordsStart recordLength places in
-        (λ j. noneOpen (image-field few 1 j ∷ rs j)) ∙ ap noneOpen (first-more t (openingsStart - 1) (omega arith))
+    pub image-field : segmentsIn t < 2048 → (k : ℕ) → headField (imageOf f t) k ≡ getD (f .number ∷ segmentsIn t ∷ 0 ∷ []) k 0
+    unfolding headField
+    image-field h k = ap (λ (x : List ℕ). getD (unpacked headWidths (rowOf x)) k 0) image-head ∙ ap (λ (x : List ℕ). getD x k 0) (head-back (segmentsIn t) h)
 
--- ---- the tables of an image
+    pub image-length : length (imageOf f t) ≡ imageLength f
+    unfolding imageOf
+    image-length =
+        length-append (headImage f (segmentsIn t)) (joined (tab places (recordImage f t)))
+        ∙ (λ j. head-length f (segmentsIn t) j + pieces-length (recordImage f t) (f .cells) (record-image-length f t) places j)
+        ∙ ap (λ (n : ℕ). 1 + n) (mul-comm (f .cells) places)
 
-module _ (img : List ℕ) (cells : Cells img) (long : length img ≡ imageLength served) where
-  piece-again : (p : ℕ) → p < places → recordImage served (tablesFrom served img) p ≡ part img (1 + 14 * p) 14
-  unfolding recordImage tablesFrom recordFrom
-  piece-again p lp =
-      ap (λ (x : List ℕ). cellsOf 14 (packed recordWidths x)) (piece-at (recordFrom served img) 50 (record-from-length img) (headField img 1 ∷ []) (replicate (tablesLength - openingsStart) 0) places p lp)
-      ∙ cells-back recordWidths 14 record-sum (part img (1 + 14 * p) 14) (part-cells img (1 + 14 * p) 14 cells) (length-part img (1 + 14 * p) 14 (omega arith))
+    image-piece : (p : ℕ) → p < places → recordPart f (imageOf f t) p ≡ recordImage f t p
+    unfolding imageOf
+    image-piece p lp =
+        let h : List ℕ = headImage f (segmentsIn t) in
+        let rs : List ℕ = joined (tab places (recordImage f t)) in
+        (λ j. part (h ++ sym (append-nil rs) j) (sym (head-length f (segmentsIn t)) j + f .cells * p) (f .cells))
+        ∙ piece-at (recordImage f t) (f .cells) (record-image-length f t) h [] places p lp
 
-  head-again : headField img 0 ≡ 1 → headField img 2 ≡ 0 → headImage served (headField img 1) ≡ part img 0 1
-  unfolding headImage headField
-  head-again form zeros =
-      let xs : List ℕ = unpacked headWidths (rowOf (part img 0 1)) in
-      ap (λ (x : List ℕ). cellsOf 1 (packed headWidths x)) (three xs (unpacked-length headWidths (rowOf (part img 0 1)) ∙ head-many) form zeros)
-      ∙ cells-back headWidths 1 head-sum (part img 0 1) (part-cells img 0 1 cells) (length-part img 0 1 (omega arith))
+    module _ (long : length t ≡ tablesLength) (few : segmentsIn t < 2048) (fits : (p : ℕ) → p < places → Fits f (part t (recordBase p) recordLength)) where
+      module _ (p : ℕ) (lp : p < places) where
+        fields : List ℕ
+        fields = part t (recordBase p) recordLength
 
-  pub image-again : headField img 0 ≡ 1 → headField img 2 ≡ 0 → imageOf served (tablesFrom served img) ≡ img
-  unfolding imageOf tablesFrom part
-  image-again form zeros =
-      let t : List ℕ = tablesFrom served img in
-      let rs : joined (tab places (recordImage served t)) ≡ part img 1 (imageLength served - 1) =
-      ap joined (tab-cong places (λ p. part img (1 + 14 * p) 14) (recordImage served t) piece-again) ∙ pieces-part img 1 14 places in
-      (λ j. head-again form zeros j ++ rs j) ∙ sym (take-add 1 (imageLength served - 1) img) ∙ take-all (imageLength served) img (omega arith)
+        fields-long : length fields ≡ recordLength
+        unfolding fields
+        fields-long = length-part t (recordBase p) recordLength (omega arith)
+
+        row-again : unpacked (rowWidths f) (rowOf (recordPart f (imageOf f t) p)) ≡ fields ++ zerosOf f
+        unfolding recordImage fields
+        row-again = ap (λ (x : List ℕ). unpacked (rowWidths f) (rowOf x)) (image-piece p lp) ∙ record-back fields fields-long (fits p lp)
+
+        record-again : recordFrom f (imageOf f t) p ≡ part t (recordBase p) recordLength
+        unfolding recordFrom unpackedRecord fields
+        record-again = ap (take recordLength) row-again ∙ take-at fields (zerosOf f) recordLength fields-long
+
+        spare-again : spareb f (recordPart f (imageOf f t) p) ≡ true
+        unfolding spareb fields
+        spare-again =
+            all-make _ (length (f .spare))
+            (λ k l. eq-eqb _ 0 (ap (λ (x : List ℕ). getD x (recordLength + k) 0) row-again ∙ zero-behind f fields (recordLength + k) (omega (arith, fields-long)) (omega (arith, fields-long))))
+
+      pub spares-again : sparesb f (imageOf f t) ≡ true
+      unfolding sparesb
+      spares-again = all-make _ places spare-again
+
+      pub tables-again : tablesFrom f (imageOf f t) ≡ closed t
+      unfolding tablesFrom closed
+      tables-again =
+          let rs : joined (tab places (recordFrom f (imageOf f t))) ≡ part t recordsStart (openingsStart - 1) =
+          ap joined (tab-cong places (λ p. part t (recordBase p) recordLength) (recordFrom f (imageOf f t)) record-again) ∙ pieces-part t recordsStart recordLength places in
+          (λ j. noneOpen (image-field few 1 j ∷ rs j)) ∙ ap noneOpen (first-more t (openingsStart - 1) (omega arith))
+
+  -- ---- the tables of an image
+
+  -- "every bit called zero here is zero", and so a record's fields tell its cells
+  row-whole : (c : List ℕ) → spareb f c ≡ true → unpackedRecord f c ++ zerosOf f ≡ unpacked (rowWidths f) (rowOf c)
+  unfolding spareb unpackedRecord
+  row-whole c zero =
+      let row : List ℕ = unpacked (rowWidths f) (rowOf c) in
+      let many : length (zerosOf f) ≡ length (f .spare) = length-replicate (length (f .spare)) 0 in
+      let l : length (drop recordLength row) ≡ length (f .spare) = omega (arith, length-drop recordLength row, row-long f w c) in
+      let zeros : zerosOf f ≡ drop recordLength row =
+      ext-getD 0 (zerosOf f) (drop recordLength row) (many ∙ sym l)
+      (λ k r. let b : k < length (f .spare) = omega (arith, r, many) in
+      getD-replicate (length (f .spare)) k 0 0 b ∙ sym (eqb-true (getD row (recordLength + k) 0) 0 (all-at _ (length (f .spare)) zero k b)) ∙ sym (getD-drop recordLength row k 0)) in
+      ap (λ (x : List ℕ). take recordLength row ++ x) zeros ∙ take-append-drop recordLength row
+
+  module _ (img : List ℕ) (cells : Cells img) (long : length img ≡ imageLength f) (spares : sparesb f img ≡ true) where
+    piece-in : (p : ℕ) → p < places → 1 + f .cells * p + f .cells ≤ length img
+    piece-in p lp = omega (arith, long, mul-le-mul-left {m = suc p} {n = places} (f .cells) lp, mul-suc (f .cells) p, mul-comm (f .cells) places)
+
+    piece-again : (p : ℕ) → p < places → recordImage f (tablesFrom f img) p ≡ recordPart f img p
+    unfolding recordImage packedRecord tablesFrom recordFrom sparesb
+    piece-again p lp =
+        let c : List ℕ = recordPart f img p in
+        ap (λ (x : List ℕ). cellsOf (f .cells) (packed (rowWidths f) (x ++ zerosOf f)))
+        (piece-at (recordFrom f img) recordLength (record-from-length f w img) (headField img 1 ∷ []) (replicate (tablesLength - openingsStart) 0) places p lp)
+        ∙ ap (λ (x : List ℕ). cellsOf (f .cells) (packed (rowWidths f) x)) (row-whole c (all-at _ places spares p lp))
+        ∙ cells-back (rowWidths f) (f .cells) (w .full) c (part-cells img (1 + f .cells * p) (f .cells) cells) (length-part img (1 + f .cells * p) (f .cells) (piece-in p lp))
+
+    head-again : headField img 0 ≡ f .number → headField img 2 ≡ 0 → headImage f (headField img 1) ≡ part img 0 1
+    unfolding headImage headField
+    head-again form zeros =
+        let xs : List ℕ = unpacked headWidths (rowOf (part img 0 1)) in
+        ap (λ (x : List ℕ). cellsOf 1 (packed headWidths x)) (three (f .number) xs (unpacked-length headWidths (rowOf (part img 0 1)) ∙ head-many) form zeros)
+        ∙ cells-back headWidths 1 head-sum (part img 0 1) (part-cells img 0 1 cells) (length-part img 0 1 (omega arith))
+
+    pub image-again : headField img 0 ≡ f .number → headField img 2 ≡ 0 → imageOf f (tablesFrom f img) ≡ img
+    unfolding imageOf tablesFrom part
+    image-again form zeros =
+        let t : List ℕ = tablesFrom f img in
+        let rs : joined (tab places (recordImage f t)) ≡ part img 1 (f .cells * places) =
+        ap joined (tab-cong places (recordPart f img) (recordImage f t) piece-again) ∙ pieces-part img 1 (f .cells) places in
+        (λ j. head-again form zeros j ++ rs j) ∙ sym (take-add 1 (f .cells * places) img) ∙ take-all (1 + f .cells * places) img (omega (arith, mul-comm (f .cells) places))

@@ -11,6 +11,7 @@ use Rattle.rules.specs.House.{closedDown}
 use Rattle.tables.specs.Sound.{soundb}
 use Rattle.tables.specs.laws.Sound.{ranged-of}
 use Rattle.image.specs.Image.{served, imageLength, imageOf, tablesFrom, imageb}
+use Rattle.image.specs.laws.Formed.{formed-served}
 use Rattle.cells.specs.Outcomes.{Lent, lent, loadOut, Saved, saved, saveOut}
 use Rattle.cells.specs.Says.{houseOf}
 use Rattle.packing_rows.specs.Cells.{Cells}
@@ -48,7 +49,7 @@ saved-image : (s img buffer : List ℕ) → Cells img → imageb served (length 
 saved-image s img buffer cells ok lb =
     let f = imageb-facts (length s) img ok in
     save-done s (tablesFrom served img) buffer (f .sound) lb
-    ∙ ap (λ (i : List ℕ). outcomeOf (done 0) (saved s (tablesFrom served img) i)) (image-again img cells (f .long) (f .form) (f .zeros))
+    ∙ ap (λ (i : List ℕ). outcomeOf (done 0) (saved s (tablesFrom served img) i)) (image-again served formed-served img cells (f .long) (f .spares) (f .form) (f .zeros))
 
 pub load-then-save : LoadThenSave
 load-then-save x img buffer cells lt ok lb =

@@ -14,6 +14,7 @@ use Rattle.combine.specs.Verdict.{Said, done, refused}
 use Rattle.rules.specs.Calls.{new, work, read, rename, reset, newPointer, write, next, prev, writeSigned, prevSigned, askSpecies, askClaim, askPermit, askBegin, askEnd, askValue, opens, closes, abandons, uses}
 use Rattle.rules.specs.Calls.{save, count, writes, fills, Call, asks, on, runs}
 use Rattle.rules.specs.Runs.{noRun}
+use Rattle.image.specs.Image.{served, imageLength}
 use Rattle.model.specs.Model.{Model}
 use Rattle.model.specs.Step.{Report}
 use Rattle.demands.specs.History.{those, Each}
@@ -66,7 +67,7 @@ third = on 3 0 (opens (work lift)) ∷ on 3 9 (opens (read lift)) ∷ on 1 0 (cl
     ∷ runs 2 1 (writes 1 (1 ∷ 2 ∷ 3 ∷ [])) ∷ on 2 1 abandons ∷ []
 
 abbrev fourth : List Call
-fourth = on 1 3 (opens (work spare)) ∷ on 1 3 (uses (rename [])) ∷ on 1 3 (closes false) ∷ asks (save (replicate 897 0)) ∷ asks (count 8) ∷ on 7 0 (opens (new 1)) ∷ []
+fourth = on 1 3 (opens (work spare)) ∷ on 1 3 (uses (rename [])) ∷ on 1 3 (closes false) ∷ asks (save (replicate (imageLength served) 0)) ∷ asks (count 8) ∷ on 7 0 (opens (new 1)) ∷ []
 
 abbrev pub alone : List Call
 alone = makes ++ (files ++ (worksOn ++ (reads ++ errs)))

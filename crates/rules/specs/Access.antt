@@ -27,8 +27,8 @@ pointerGate signed p needs h v =
     v
 
 -- "Write: v < b is 6; p not 1 and v >= e is 7. Through 1: append, e grows by 1. Through 0: the first element is dropped, no segment is taken
--- and no store cell changes. Else position v is replaced. v grows by 1."; "An append refused for 10: e is 16,777,215."; document 02, P5: a number
--- that is too wide "is now refused, number 23, after 7 and before 10, through any pointer"
+-- and no store cell changes. Else position v is replaced. v grows by 1."; "An append refused for 10: e is 16,777,215."; document 02, P6: "Refusal
+-- 10 now stands at that end value", 4,294,967,295; P5: a number that is too wide "is now refused, number 23, after 7 and before 10, through any pointer"
 -- `takes v` says that to store at position v takes a segment
 unfoldable pub writeRule : (pointer : ℕ) (signed wide : Bool) (bits : ℕ) (takes : ℕ → Bool) (room : Bool) → Handle → Verdict Use
 writeRule p signed wide n takes room h =

@@ -30,7 +30,7 @@ putRow s b w l (suc j) =
     let a = b + j * w in
     set st (a / 32) (putBits w (a % 32) (getD st (a / 32) 0) (getD l j 0))
 
--- the first position that pointer p does not write at: "An append refused for 10: e is 16,777,215."; "p not 1 and v >= e is 7"
+-- the first position that pointer p does not write at: an append is refused for 10 at the greatest end; "p not 1 and v >= e is 7"
 unfoldable pub limitOf : Opening → (pointer : ℕ) → ℕ
 limitOf o p = cond (eqb p 1) greatestEnd (valueOf o 1)
 

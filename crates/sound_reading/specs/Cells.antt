@@ -1,22 +1,22 @@
 -- Fields of an opening's row of 56 cells, and of a record's row of 50, by cells. Assumes nothing.
-use Prim.Native.Nat.{ℕ, _+_, _-_, _≤_, _<_}
+use Prim.Native.Nat.{ℕ, _+_, _-_, _^_, _≤_, _<_}
 use mathlib.Core.Path.{_≡_, sym, ap, _∙_}
-use mathlib.Core.Bool.{Bool}
+use mathlib.Core.Bool.{Bool, true}
 use mathlib.Core.List.{List, map}
 use native.Mathlib.Omega.{arith}
-use lib.Dec.{eqb, leb, ltb, leb·suc-suc}
+use lib.Dec.{eqb, leb}
 use lib.ListN.{length, getD}
+use borrow.Author.Tests.{le-leb}
 use Rattle.combine.specs.Below.{allBelow}
-use Rattle.combine.specs.laws.Below.{all-cong}
+use Rattle.combine.specs.laws.Below.{all-cong, all-make}
 use Rattle.combine.specs.Lists.{part, same}
 use Rattle.combine.specs.laws.Parts.{length-part, getD-part}
 use Rattle.combine.specs.laws.Same.{same-all}
-use Rattle.placing.specs.Sizes.{mostHeld, greatestEnd, allPointers, openingLength}
+use Rattle.placing.specs.Sizes.{mostHeld, greatestEnd, allPointers}
 use Rattle.placing.specs.Placing.{segment}
 use Rattle.tables.specs.Layout.{openingOf}
 use Rattle.tables.specs.Fields.{valueOf, numberAt}
 use Rattle.sound_extents.specs.Numbers.{segment-number, position-number}
-use Rattle.sound_extents.specs.Slices.{sliced, allCells, all-slice}
 
 -- a pointer's value
 pub value-cell : (c : List ℕ) (p : ℕ) → p < 8 → valueOf (openingOf c) p ≡ getD c (4 + p) 0
@@ -48,12 +48,6 @@ same-numbers c d a b hc hd =
     ∙ ap (λ (n : ℕ). allBelow n (λ k. eqb (getD x k 0) (getD y k 0))) lx
     ∙ sym (all-cong (λ k. eqb (numberAt (map segment x) k) (numberAt (map segment y) k)) (λ k. eqb (getD x k 0) (getD y k 0)) mostHeld (λ k _ i. eqb (segment-number x k i) (segment-number y k i)))
 
--- "the values of pointers 2 to 7 .. are 1 to the greatest end value"
-pub values-below : (c : List ℕ) → length c ≡ openingLength → allCells (λ x. ltb x (greatestEnd + 1)) (sliced c 6 12) ≡ allBelow (allPointers - 2) (λ k. leb (valueOf (openingOf c) (2 + k)) greatestEnd)
-values-below c l = all-slice (λ x. ltb x (greatestEnd + 1)) (λ k. leb (valueOf (openingOf c) (2 + k)) greatestEnd) c 6 12 6 (omega arith) (omega arith) at
-  where
-    at : (k : ℕ) → k < 6 → ltb (getD c (6 + k) 0) (greatestEnd + 1) ≡ leb (valueOf (openingOf c) (2 + k)) greatestEnd
-    at k h =
-        let e : 6 + k ≡ 4 + (2 + k) = omega arith in
-        leb·suc-suc (getD c (6 + k) 0) greatestEnd
-        ∙ ap (λ (x : ℕ). leb x greatestEnd) (ap (λ (j : ℕ). getD c j 0) e ∙ sym (value-cell c (2 + k) (omega arith)))
+-- "the values of pointers 2 to 7 .. are 1 to the greatest end value": no cell is above it
+pub values-small : (c : List ℕ) → ((i : ℕ) → getD c i 0 < 2 ^ 32) → allBelow (allPointers - 2) (λ k. leb (valueOf (openingOf c) (2 + k)) greatestEnd) ≡ true
+values-small c small = all-make _ (allPointers - 2) (λ k h. le-leb (valueOf (openingOf c) (2 + k)) greatestEnd (omega (arith, small (4 + (2 + k)), value-cell c (2 + k) (omega arith))))

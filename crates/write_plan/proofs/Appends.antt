@@ -44,6 +44,10 @@ pub append-wide : (t : List ℕ) (o : Opening) (t₂₃ : Bool) → t₂₃ ≡ 
 unfolding appendVerdict
 append-wide t o t₂₃ w = record { says = λ n. refused-here 23 _ _ w }
 
+-- the position after the end exists
+pub append-after : (e : Position) (t₁₀ : Bool) → t₁₀ ≡ leb greatestEnd (e .0) → t₁₀ ≡ false → e .0 < greatestEnd
+append-after e t₁₀ e₁₀ l = most-not t₁₀ greatestEnd (e .0) e₁₀ l
+
 module _ (t : List ℕ) (o : Opening) (t₂₃ : Bool) (fits : t₂₃ ≡ false) (e : Position) (ee : e .0 ≡ valueOf o 1) (t₁₀ : Bool) (e₁₀ : t₁₀ ≡ leb greatestEnd (e .0)) where
   last-is : leb greatestEnd (valueOf o 1) ≡ t₁₀
   last-is = ap (leb greatestEnd) (sym ee) ∙ sym e₁₀
@@ -75,7 +79,7 @@ module _ (t : List ℕ) (o : Opening) (t₂₃ : Bool) (fits : t₂₃ ≡ false
             record {
               known = omega arith;
               low = f .order;
-              high = f .last;
+              high = omega (arith, append-after e t₁₀ e₁₀ l);
               listed = slot-at-end (o .species) (f .species) (valueOf o 0) (f .first) (valueOf o 1) (f .order);
               small = omega (arith, held-is, held-behind (o .species) (f .species) (valueOf o 0) (f .first) (valueOf o 1) (f .order));
             }
@@ -87,4 +91,4 @@ module _ (t : List ℕ) (o : Opening) (t₂₃ : Bool) (fits : t₂₃ ≡ false
             (λ n. went-on 23 _ _ _ fits
             (went-on 10 _ _ _ (last-is ∙ l) (went-on 8 _ _ _ (le-ltb mostHeld (heldOf (o .species) (valueOf o 0) (valueOf o 1 + 1)) (omega (arith, held-is))) refl))) y f
 
-pub ruleset appends = (append-wide, append-full, append-spans, append-many, append-seats, append-on)
+pub ruleset appends = (append-after, append-wide, append-full, append-spans, append-many, append-seats, append-on)

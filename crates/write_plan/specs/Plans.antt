@@ -29,7 +29,7 @@ use Rattle.write_plan.specs.declared.Plan.the-variants.{No, Drop, Put, C
 pub record Seats (o : Opening) (p : ℕ) : Type 0 where
   pub known : p < 8
   pub low : valueOf o 0 ≤ valueOf o p
-  pub high : valueOf o p ≤ greatestEnd
+  pub high : valueOf o p < greatestEnd
   pub listed : slotOf (o .species) (valueOf o 0) (valueOf o p) ≤ heldOf (o .species) (valueOf o 0) (valueOf o 1)
   pub small : slotOf (o .species) (valueOf o 0) (valueOf o p) < mostHeld
 

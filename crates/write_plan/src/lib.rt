@@ -86,7 +86,7 @@ fn seat(tables: &[u32], opening: Opening, pointer: u32) -> Plan
     Plan::Copy(at, own, free)
 }
 
-// "Through 1: append, e grows by 1.": "An append refused for 10: e is 16,777,215."; a number that is too wide is 23, "before 10".
+// "Through 1: append, e grows by 1.": 10 at the greatest end; a number that is too wide is 23, "before 10".
 fn append(tables: &[u32], opening: Opening, wide: bool) -> Plan
     requires { ⌜ Known (now tables) opening ⌝ }
     ensures { λ r. ⌜ Planned (now (tables .entry)) opening 1 (appendVerdict (now (tables .entry)) opening wide) r ⌝ }

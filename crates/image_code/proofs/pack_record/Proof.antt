@@ -1,110 +1,76 @@
--- `image_code::pack_record` meets its contract: the fields fill four cells, the segment numbers ten. Assumes nothing.
-use Prim.Native.Nat.{ℕ}
-use mathlib.Core.Path.{ap, _∙_}
-use mathlib.Core.List.{_++_}
+-- `image_code::pack_record` meets its contract: the fields and zeros fill the cells. Assumes nothing.
+use Prim.Native.Nat.{ℕ, _*_}
+use mathlib.Core.Path.{_≡_, sym, ap, subst, _∙_}
+use mathlib.Core.List.{List, [], _∷_, _++_}
 use denote.Ref.{now}
-use native.Mathlib.Omega.{arith}
-use lib.ListN.{take, drop, length-drop}
-use lib.Seq.{length-take-le}
-use Rattle.packing.specs.Packing.{sum, packed, cellsOf}
-use Rattle.image_code.specs.Widths.{fieldWidths, numberWidths, fields-narrow, numbers-narrow}
-use Rattle.image_code.proofs.Two.{both-put, others-length, fields-fit, numbers-fit, record-packed}
+use lib.ListN.{length}
+use Rattle.packing.specs.Packing.{packed, cellsOf}
+use Rattle.placing.specs.Sizes.{recordLength}
+use Rattle.image.specs.Image.{served, recordWidths, rowWidths, packedRecord}
+use Rattle.image.specs.laws.Formed.{formed-served}
+use Rattle.image_code.specs.Widths.{row-narrow}
+use Rattle.image_code.specs.Fits.{Fits}
+use Rattle.image_code.specs.Rows.{row-length, row-fits}
 use borrow.Author.Needs.{needs}
 use Rattle.image_code.proofs.pack_record.Statement.{statement}
 use Rattle.image_code.proofs.pack_record.Tie as tie
 
-sub-pack : tie.Need-sub-pack
-sub-pack c = search needs
+sub-copy-cells : tie.Need-sub-copy-cells
+sub-copy-cells c = search needs
 
-part-pack-start : tie.Need-part-pack-start
-part-pack-start c = search needs
+part-row-start : tie.Need-part-row-start
+part-row-start c = search needs
 
-part-pack-end : tie.Need-part-pack-end
-part-pack-end c = search needs
+part-row-end : tie.Need-part-row-end
+part-row-end c = search needs
+
+copy-cells-requires : tie.Need-copy-cells-requires
+copy-cells-requires c κs = search needs
 
 slice-aggregate-pack : tie.Need-slice-aggregate-pack
 slice-aggregate-pack c = search needs
 
-sub-pack-2 : tie.Need-sub-pack-2
-sub-pack-2 c = search needs
-
-part-pack-start-2 : tie.Need-part-pack-start-2
-part-pack-start-2 c = search needs
-
-part-pack-end-2 : tie.Need-part-pack-end-2
-part-pack-end-2 c = search needs
+slice-aggregate-pack-2 : tie.Need-slice-aggregate-pack-2
+unfolding recordWidths
+slice-aggregate-pack-2 c =
+    let r = c .before .before .before .before in
+    sym (row-length served formed-served (r .copy-cells .last .1 .0) (ap length (r .copy-cells .ensures) ∙ r .before .before .before .before .pre .0))
 
 pack-requires : tie.Need-pack-requires
-unfolding fieldWidths sum
+unfolding recordWidths
 pack-requires c κs =
-    let s = c .before .before .before .before .before in
-    (fields-narrow, length-take-le 18 (now (s .args .values)) (omega arith), omega (arith, length-take-le 4 (now (s .args .out)) (omega arith)), fields-fit (now (s .args .values)) (s .pre .2))
-
-sub-pack-3 : tie.Need-sub-pack-3
-sub-pack-3 c = search needs
-
-part-pack-start-3 : tie.Need-part-pack-start-3
-part-pack-start-3 c = search needs
-
-part-pack-end-3 : tie.Need-part-pack-end-3
-part-pack-end-3 c = search needs
-
-slice-aggregate-pack-2 : tie.Need-slice-aggregate-pack-2
-slice-aggregate-pack-2 c = search needs
-
-sub-pack-4 : tie.Need-sub-pack-4
-sub-pack-4 c = search needs
-
-part-pack-start-4 : tie.Need-part-pack-start-4
-part-pack-start-4 c = search needs
-
-part-pack-end-4 : tie.Need-part-pack-end-4
-part-pack-end-4 c = search needs
-
-pack-requires-2 : tie.Need-pack-requires-2
-unfolding numberWidths sum
-pack-requires-2 c κs =
-    let s = c .before .before .before .before .before .before .before .before .before .before .before in
-    let f = c .before .before .before .before .before .pack in
-    let out = now (s .args .out) in
-    let ten = others-length 4 10 out (f .last .0) (s .pre .1) (f .kept .0 ∙ length-take-le 4 out (omega arith)) in
-    (numbers-narrow, length-take-le 32 (drop 18 (now (s .args .values))) (omega (arith, length-drop 18 (now (s .args .values)))), omega (arith, ten), numbers-fit (now (s .args .values)) (s .pre .2))
+    let r = c .before .before .before .before in
+    let s = r .before .before .before .before in
+    let row : List ℕ = r .copy-cells .last .1 .0 in
+    let same : row ≡ now (s .args .values) = r .copy-cells .ensures in
+    let long : length row ≡ recordLength = ap length same ∙ s .pre .0 in (
+      row-narrow,
+      row-length served formed-served row long,
+      formed-served .full ∙ ap (λ (n : ℕ). 32 * n) (sym (s .pre .1)),
+      row-fits served formed-served row long (subst (Fits served) (sym same) (s .pre .2)),
+    )
 
 same-length : tie.Need-same-length
 same-length c = search needs
 
 returns : tie.Need-returns
-unfolding fieldWidths numberWidths
+unfolding packedRecord recordWidths
 returns c =
-    let s = c .before .before .before .before .before .before .before .before .before .before .before .before .before .before in
-    let f = c .before .before .before .before .before .before .before .before .pack in
-    let g = c .before .before .pack2 in
-    let out = now (s .args .out) in
-    let four = length-take-le 4 out (omega arith) in
-    let a = f .ensures ∙ ap (λ (n : ℕ). cellsOf n (packed fieldWidths (take 18 (now (s .args .values))))) four in
-    let ten = others-length 4 10 out (f .last .0) (s .pre .1) (f .kept .0 ∙ four) in
-    let b = g .ensures ∙ ap (λ (n : ℕ). cellsOf n (packed numberWidths (take 32 (drop 18 (now (s .args .values)))))) ten in
-    both-put 4 10 out (f .last .0) (g .last .0) (s .pre .1) (f .kept .0 ∙ four) ∙ (λ j. a j ++ b j) ∙ record-packed (now (s .args .values)) (s .pre .0)
+    let f = c .before .before in
+    let r = f .before .before .before .before .before in
+    let s = r .before .before .before .before in
+    f .pack .ensures ∙ (λ j. cellsOf (s .pre .1 j) (packed (rowWidths served) (r .copy-cells .ensures j ++ 0 ∷ [])))
 
 pub pack-record-spec : {M : Type 1} → statement M
 pack-record-spec =
     tie.close
     (tie.spec
-    sub-pack
-    part-pack-start
-    part-pack-end
+    sub-copy-cells
+    part-row-start
+    part-row-end
+    copy-cells-requires
     slice-aggregate-pack
-    sub-pack-2
-    part-pack-start-2
-    part-pack-end-2
-    pack-requires
-    sub-pack-3
-    part-pack-start-3
-    part-pack-end-3
     slice-aggregate-pack-2
-    sub-pack-4
-    part-pack-start-4
-    part-pack-end-4
-    pack-requires-2
+    pack-requires
     same-length
     returns)

@@ -4,7 +4,8 @@ use mathlib.Core.Path.{refl, ap, _∙_}
 use mathlib.Core.List.{[], _∷_}
 use native.Mathlib.Omega.{arith}
 use Rattle.packing.specs.Packing.{packed, cellsOf}
-use Rattle.image.specs.Image.{headWidths, headImage}
+use Rattle.image.specs.Image.{served, headWidths, headImage}
+use Rattle.image.specs.laws.Formed.{formed-served}
 use Rattle.image_code.specs.Widths.{head-sum, head-narrow}
 use Rattle.image_code.specs.Fits.{head-fits}
 use borrow.Author.Needs.{needs}
@@ -21,7 +22,7 @@ pack-requires : tie.Need-pack-requires
 unfolding headWidths
 pack-requires c κs =
     let s = c .before .before .before .before in
-    (head-narrow, refl, omega (arith, head-sum), head-fits (s .args .segments) (omega (arith, s .pre .1)))
+    (head-narrow, refl, omega (arith, head-sum), head-fits served formed-served (s .args .segments) (omega (arith, s .pre .1)))
 
 same-length : tie.Need-same-length
 same-length c = search needs
@@ -31,7 +32,7 @@ unfolding headImage headWidths
 returns c =
     let f = c .before .before .pack in
     let s = c .before .before .before .before .before .before .before in
-    f .ensures ∙ ap (λ (n : ℕ). cellsOf n (packed headWidths (1 ∷ s .args .segments ∷ 0 ∷ []))) (s .pre .0)
+    f .ensures ∙ ap (λ (n : ℕ). cellsOf n (packed headWidths (served .number ∷ s .args .segments ∷ 0 ∷ []))) (s .pre .0)
 
 pub put-head-spec : {M : Type 1} → statement M
 put-head-spec =

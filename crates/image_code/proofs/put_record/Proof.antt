@@ -3,8 +3,8 @@ use Prim.Native.Nat.{ℕ}
 use mathlib.Core.Path.{sym, ap, _∙_}
 use denote.Ref.{now}
 use lib.ListN.{replicate}
-use Rattle.packing_rows.specs.Zeros.{pack-zeros}
-use Rattle.image.specs.Image.{recordWidths}
+use Rattle.image.specs.Image.{served}
+use Rattle.image_code.specs.Rows.{packed-blank}
 use borrow.Author.Needs.{needs}
 use Rattle.image_code.proofs.put_record.Statement.{statement}
 use Rattle.image_code.proofs.put_record.Tie as tie
@@ -22,7 +22,7 @@ returns : tie.Need-returns
 returns c =
     let s = c .before .before .before .before .before .before .before .before in
     c .before .before .fill-cells .ensures ∙ ap (λ (n : ℕ). replicate n 0) (s .pre .1)
-    ∙ sym (pack-zeros recordWidths (now (s .args .values)) 14 (s .pre .2 .blank (c .before .before .before .before .if1 .taken)))
+    ∙ sym (packed-blank served (now (s .args .values)) (s .pre .2 .blank (c .before .before .before .before .if1 .taken)))
 
 pack-record-requires : tie.Need-pack-record-requires
 pack-record-requires c κs =

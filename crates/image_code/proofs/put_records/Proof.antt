@@ -1,12 +1,10 @@
 -- `image_code::put_records` meets its contract: after p turns the image has p records after its first cell. Assumes nothing.
-use Prim.Native.Nat.{ℕ, _+_, _-_, _*_, _≤_}
+use Prim.Native.Nat.{_+_, _-_, _*_, _≤_}
 use mathlib.Core.Path.{_≡_, refl, sym, ap, subst, _∙_}
-use mathlib.Core.List.{List}
 use denote.Ref.{now}
 use native.Mathlib.Omega.{arith}
 use lib.ListN.{length}
-use Rattle.packing.specs.Packing.{packed, cellsOf}
-use Rattle.image.specs.Image.{served, imageLength, recordWidths, recordImage}
+use Rattle.image.specs.Image.{served, imageLength, packedRecord, recordImage}
 use Rattle.image_code.specs.Fits.{Writable, records-writable}
 use Rattle.image_code.specs.Lengths.{record-image-length}
 use Rattle.image_code.proofs.Turns.{mid-part, mid-is, placed, none-placed, one-placed, all-placed, image-full}
@@ -15,7 +13,7 @@ use Rattle.image_code.proofs.put_records.Statement.{statement}
 use Rattle.image_code.proofs.put_records.Tie as tie
 
 abbrev Inv-loop : tie.InvT-loop
-Inv-loop tables image₀ p₀ image p = (p ≤ 64) × (length image ≡ length image₀) × (image ≡ placed (recordImage served tables) 14 (record-image-length tables) image₀ p)
+Inv-loop tables image₀ p₀ image p = (p ≤ 64) × (length image ≡ length image₀) × (image ≡ placed (recordImage served tables) 15 (record-image-length served tables) image₀ p)
 
 abbrev μ-loop : tie.MeasureT-loop
 μ-loop tables image₀ p₀ image p = 64 - p
@@ -23,7 +21,7 @@ abbrev μ-loop : tie.MeasureT-loop
 loop-holds : tie.Need-loop-holds Inv-loop μ-loop
 loop-holds c =
     let a = c .before .before .args in
-    (omega arith, refl, none-placed (recordImage served (now (a .tables))) 14 (record-image-length (now (a .tables))) (now (a .image)) refl)
+    (omega arith, refl, none-placed (recordImage served (now (a .tables))) 15 (record-image-length served (now (a .tables))) (now (a .image)) refl)
 
 mul-put-record : tie.Need-mul-put-record Inv-loop μ-loop
 mul-put-record c = search needs
@@ -81,8 +79,8 @@ put-record-requires c κs =
     let row = mid-is (1 + 50 * l .p) (51 + 50 * l .p) 50 t (omega arith) in
     let writable = records-writable t (s .pre .0) (l .p) (omega arith) in (
       mid-part (1 + 50 * l .p) (51 + 50 * l .p) 50 t (omega arith) (omega (arith, s .pre .0 .0)),
-      mid-part (1 + 14 * l .p) (15 + 14 * l .p) 14 (l .image) (omega arith) (omega arith),
-      subst Writable (sym row) writable,
+      mid-part (1 + 15 * l .p) (16 + 15 * l .p) 15 (l .image) (omega arith) (omega arith),
+      subst (Writable served) (sym row) writable,
     )
 
 add-p : tie.Need-add-p Inv-loop μ-loop
@@ -98,7 +96,7 @@ loop-again c =
     let t = now (s .args .tables) in
     let l = c .before .before .before .before .before .before .loop in
     let f = c .before .before .put-record in
-    (omega arith, c .before .image .given .1 ∙ l .inv .1, one-placed (recordImage served t) 14 (record-image-length t) (now (s .args .image)) (l .image) (f .last .1 .0) (l .p) (15 + 14 * l .p) (omega arith) (omega arith) (omega arith) (l .inv .2) (f .ensures ∙ ap (λ (r : List ℕ). cellsOf 14 (packed recordWidths r)) (mid-is (1 + 50 * l .p) (51 + 50 * l .p) 50 t (omega arith))))
+    (omega arith, c .before .image .given .1 ∙ l .inv .1, one-placed (recordImage served t) 15 (record-image-length served t) (now (s .args .image)) (l .image) (f .last .1 .0) (l .p) (16 + 15 * l .p) (omega arith) (omega arith) (omega arith) (l .inv .2) (f .ensures ∙ ap (packedRecord served) (mid-is (1 + 50 * l .p) (51 + 50 * l .p) 50 t (omega arith))))
 
 same-length : tie.Need-same-length Inv-loop μ-loop
 same-length c = search needs
@@ -107,7 +105,7 @@ returns : tie.Need-returns Inv-loop μ-loop
 returns c =
     let s = c .before .before .before .before in
     let l = c .before .loop in
-    image-full (now (s .args .image)) _ (l .image) (s .pre .1) (all-placed (recordImage served (now (s .args .tables))) 14 (record-image-length (now (s .args .tables))) (now (s .args .image)) (l .image) (l .p) (imageLength served) (omega arith) refl (l .inv .2))
+    image-full (now (s .args .image)) _ (l .image) (s .pre .1) (all-placed (recordImage served (now (s .args .tables))) 15 (record-image-length served (now (s .args .tables))) (now (s .args .image)) (l .image) (l .p) (imageLength served) (omega arith) refl (l .inv .2))
 
 pub put-records-spec : {M : Type 1} → statement M
 put-records-spec =

@@ -1,6 +1,11 @@
 -- `image_code::take_head` meets its contract: three fields fill a cell. Assumes nothing.
-use mathlib.Core.Path.{refl}
+use Prim.Native.Nat.{_-_, _*_, _/_, _^_}
+use mathlib.Core.Path.{_≡_, refl, ap, _∙_}
+use denote.Ref.{now}
+use native.Mathlib.Nat.{div-one}
 use native.Mathlib.Omega.{arith}
+use lib.ListN.{length}
+use Rattle.packing.specs.Packing.{rowOf, sum, unpacked}
 use Rattle.image.specs.Image.{headWidths}
 use Rattle.image_code.specs.Widths.{head-sum, head-narrow}
 use borrow.Author.Needs.{needs}
@@ -16,11 +21,15 @@ slice-aggregate-unpack-2 c = search needs
 unpack-requires : tie.Need-unpack-requires
 unfolding headWidths
 unpack-requires c κs =
-    (head-narrow, refl, omega (arith, head-sum))
+    ((head-narrow, refl), (omega (arith, head-sum), omega (arith, head-sum)))
 
 returns : tie.Need-returns
 unfolding headWidths
-returns c = c .before .unpack .ensures
+returns c =
+    let u = c .before in
+    let s = u .before .before .before .before in
+    let none : 32 * length (now (s .args .cells)) - sum headWidths ≡ 0 = omega (arith, head-sum, s .pre) in
+    u .unpack .ensures ∙ (λ j. unpacked headWidths (rowOf (now (s .args .cells)) / 2 ^ none j)) ∙ ap (unpacked headWidths) (div-one _)
 
 pub take-head-spec : {M : Type 1} → statement M
 take-head-spec =

@@ -2,22 +2,22 @@
 use Prim.Native.Nat.{ℕ}
 use mathlib.Core.Path.{sym, ap, _∙_}
 use denote.Ref.{now}
-use lib.ListN.{length, replicate, length-replicate}
+use lib.ListN.{length, take, length-replicate}
 use Rattle.packing_rows.specs.Zeros.{unpack-zeros}
-use Rattle.image.specs.Image.{recordWidths}
-use Rattle.image_code.specs.Widths.{record-many}
+use Rattle.placing.specs.Sizes.{recordLength}
+use Rattle.image.specs.Image.{served, recordWidths, rowWidths, unpackedRecord}
 use borrow.Author.Needs.{needs}
 use Rattle.image_code.proofs.take_record.Statement.{statement}
 use Rattle.image_code.proofs.take_record.Tie as tie
 
-all-zero-requires : tie.Need-all-zero-requires
-all-zero-requires c κs = search needs
+is-blank-requires : tie.Need-is-blank-requires
+is-blank-requires c κs = search needs
 
 returns : tie.Need-returns
+unfolding unpackedRecord recordWidths
 returns c =
     let s = c .before .before .before .before in
-    s .pre .1 ∙ ap (λ (n : ℕ). replicate n 0) (sym record-many)
-    ∙ sym (unpack-zeros recordWidths (now (s .args .cells)) (sym (c .before .all-zero .ensures) ∙ c .if1 .taken))
+    s .pre .1 ∙ sym (ap (take recordLength) (unpack-zeros (rowWidths served) (now (s .args .cells)) (sym (c .before .is-blank .ensures) ∙ c .if1 .taken)))
 
 unpack-record-requires : tie.Need-unpack-record-requires
 unpack-record-requires c κs =
@@ -32,4 +32,4 @@ returns-2 c = search needs
 
 pub take-record-spec : {M : Type 1} → statement M
 take-record-spec =
-    tie.close (tie.spec all-zero-requires returns unpack-record-requires same-length returns-2)
+    tie.close (tie.spec is-blank-requires returns unpack-record-requires same-length returns-2)

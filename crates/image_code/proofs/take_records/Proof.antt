@@ -1,13 +1,12 @@
 -- `image_code::take_records` meets its contract: after p turns the tables have p records after their first cell. Assumes nothing.
-use Prim.Native.Nat.{ℕ, _+_, _-_, _*_, _≤_}
+use Prim.Native.Nat.{_+_, _-_, _*_, _≤_}
 use mathlib.Core.Path.{_≡_, refl, ap, _∙_}
-use mathlib.Core.List.{List}
 use denote.Ref.{now}
 use native.Mathlib.Omega.{arith}
 use lib.ListN.{length}
-use Rattle.packing.specs.Packing.{unpacked, rowOf}
 use Rattle.placing.specs.Sizes.{openingsStart}
-use Rattle.image.specs.Image.{served, recordWidths, recordFrom}
+use Rattle.image.specs.Image.{served, unpackedRecord, recordFrom}
+use Rattle.image.specs.laws.Formed.{formed-served}
 use Rattle.image_code.specs.Lengths.{record-from-length}
 use Rattle.image_code.proofs.Turns.{mid-part, mid-is, placed, none-placed, not-placed, one-placed, all-placed, zeros-come}
 use borrow.Author.Needs.{needs}
@@ -15,7 +14,7 @@ use Rattle.image_code.proofs.take_records.Statement.{statement}
 use Rattle.image_code.proofs.take_records.Tie as tie
 
 abbrev Inv-loop : tie.InvT-loop
-Inv-loop image tables₀ p₀ tables p = (p ≤ 64) × (length tables ≡ length tables₀) × (tables ≡ placed (recordFrom served image) 50 (record-from-length image) tables₀ p)
+Inv-loop image tables₀ p₀ tables p = (p ≤ 64) × (length tables ≡ length tables₀) × (tables ≡ placed (recordFrom served image) 50 (record-from-length served formed-served image) tables₀ p)
 
 abbrev μ-loop : tie.MeasureT-loop
 μ-loop image tables₀ p₀ tables p = 64 - p
@@ -23,7 +22,7 @@ abbrev μ-loop : tie.MeasureT-loop
 loop-holds : tie.Need-loop-holds Inv-loop μ-loop
 loop-holds c =
     let a = c .before .before .args in
-    (omega arith, refl, none-placed (recordFrom served (now (a .image))) 50 (record-from-length (now (a .image))) (now (a .tables)) refl)
+    (omega arith, refl, none-placed (recordFrom served (now (a .image))) 50 (record-from-length served formed-served (now (a .image))) (now (a .tables)) refl)
 
 mul-take-record : tie.Need-mul-take-record Inv-loop μ-loop
 mul-take-record c = search needs
@@ -79,9 +78,9 @@ take-record-requires c κs =
     let l = c .before .before .before .loop in
     let img = now (s .args .image) in
     let t = now (s .args .tables) in (
-      mid-part (1 + 14 * l .p) (15 + 14 * l .p) 14 img (omega arith) (omega arith),
+      mid-part (1 + 15 * l .p) (16 + 15 * l .p) 15 img (omega arith) (omega arith),
       zeros-come t (l .tables) (l .p) (51 + 50 * l .p) (omega arith) (omega arith) (s .pre .2)
-          (not-placed (recordFrom served img) 50 (record-from-length img) t (l .tables) (l .p) (omega arith) (l .inv .2)),
+          (not-placed (recordFrom served img) 50 (record-from-length served formed-served img) t (l .tables) (l .p) (omega arith) (l .inv .2)),
     )
 
 add-p : tie.Need-add-p Inv-loop μ-loop
@@ -97,7 +96,7 @@ loop-again c =
     let i = now (s .args .image) in
     let l = c .before .before .before .before .before .before .loop in
     let f = c .before .before .take-record in
-    (omega arith, c .before .tables .given .1 ∙ l .inv .1, one-placed (recordFrom served i) 50 (record-from-length i) (now (s .args .tables)) (l .tables) (f .last .1 .0) (l .p) (51 + 50 * l .p) (omega arith) (omega arith) (omega arith) (l .inv .2) (f .ensures ∙ ap (λ (r : List ℕ). unpacked recordWidths (rowOf r)) (mid-is (1 + 14 * l .p) (15 + 14 * l .p) 14 i (omega arith))))
+    (omega arith, c .before .tables .given .1 ∙ l .inv .1, one-placed (recordFrom served i) 50 (record-from-length served formed-served i) (now (s .args .tables)) (l .tables) (f .last .1 .0) (l .p) (51 + 50 * l .p) (omega arith) (omega arith) (omega arith) (l .inv .2) (f .ensures ∙ ap (unpackedRecord served) (mid-is (1 + 15 * l .p) (16 + 15 * l .p) 15 i (omega arith))))
 
 same-length : tie.Need-same-length Inv-loop μ-loop
 same-length c = search needs
@@ -106,7 +105,7 @@ returns : tie.Need-returns Inv-loop μ-loop
 returns c =
     let s = c .before .before .before .before in
     let l = c .before .loop in
-    all-placed (recordFrom served (now (s .args .image))) 50 (record-from-length (now (s .args .image))) (now (s .args .tables)) (l .tables) (l .p) openingsStart (omega arith) refl (l .inv .2)
+    all-placed (recordFrom served (now (s .args .image))) 50 (record-from-length served formed-served (now (s .args .image))) (now (s .args .tables)) (l .tables) (l .p) openingsStart (omega arith) refl (l .inv .2)
 
 pub take-records-spec : {M : Type 1} → statement M
 take-records-spec =

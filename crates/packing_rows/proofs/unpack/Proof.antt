@@ -20,7 +20,7 @@ abbrev μ-loop : tie.MeasureT-loop
 loop-holds : tie.Need-loop-holds Inv-loop μ-loop
 loop-holds c =
     let s = c .before .before .before in
-    (omega arith, refl, handed-start (now (s .args .widths)) (now (s .args .cells)) (now (s .args .values)) (s .pre .0))
+    (omega arith, refl, handed-start (now (s .args .widths)) (now (s .args .cells)) (now (s .args .values)) (s .pre .0 .0))
 
 mul-t10 : tie.Need-mul-t10 Inv-loop μ-loop
 mul-t10 c = search needs
@@ -56,7 +56,7 @@ hand-out-requires c κs =
     let w = now (s .args .widths) in
     let cells = now (s .args .cells) in
     let small : getD cells (l .read) 0 < 2 ^ 32 = c .before .before .before .before .before .before .shared-slice-known .given (l .read) .fits in
-    ((s .pre .0, l .inv .1 ∙ s .pre .1), read-begun w cells (l .number) (l .bits) (l .next) (l .read) (getD cells (l .read) 0) (l .inv .2 .0) (l .inv .2 .1) small)
+    ((s .pre .0 .0, l .inv .1 ∙ s .pre .0 .1), read-begun w cells (l .number) (l .bits) (l .next) (l .read) (getD cells (l .read) 0) (l .inv .2 .0) (l .inv .2 .1) small)
 
 add-read : tie.Need-add-read Inv-loop μ-loop
 add-read c = search needs
@@ -74,7 +74,7 @@ loop-again c =
     let t = c .before .before .before .before .before .loop-test .taken in
     let f = c .before .before .hand-out in
     let sums = f .ensures .1 .0 in
-    let few = left-few w cells (s .pre .0) (s .pre .2) (f .result .bits) (f .result .next) (l .read + 1) (f .ensures .0 .1 .0) (omega arith) (omega (arith, sums, l .inv .2 .2)) (f .ensures .0 .0) in (
+    let few = left-few w cells (s .pre .0 .0) (s .pre .1 .0) (s .pre .1 .1) (f .result .bits) (f .result .next) (l .read + 1) (f .ensures .0 .1 .0) (omega arith) (omega (arith, sums, l .inv .2 .2)) (f .ensures .0 .0) in (
       omega arith,
       f .kept .1 .0 ∙ l .inv .1,
       (
@@ -93,7 +93,7 @@ returns : tie.Need-returns Inv-loop μ-loop
 returns c =
     let s = c .before .before .before .before .before in
     let l = c .before .loop in
-    handed-done (now (s .args .widths)) (now (s .args .cells)) (s .pre .0) (s .pre .2) (l .values) (l .number) (l .bits) (l .next) (l .read) (l .inv .1 ∙ s .pre .1) (omega arith) (l .inv .2)
+    handed-done (now (s .args .widths)) (now (s .args .cells)) (s .pre .0 .0) (s .pre .1 .0) (s .pre .1 .1) (l .values) (l .number) (l .bits) (l .next) (l .read) (l .inv .1 ∙ s .pre .0 .1) (omega arith) (l .inv .2)
 
 pub unpack-spec : {M : Type 1} → statement M
 unpack-spec =

@@ -20,7 +20,7 @@ pub record SoundExtent (s b e : ℕ) : Type 0 where
   -- "1 <= begin <= end"
   pub begin : 1 ≤ b
   pub end : b ≤ e
-  -- "The begin and end values are 1 to 16,777,215."
+  -- "The begin and end values are 1 to" the greatest
   pub greatest : e ≤ greatestEnd
   -- "at most 32 segments held"
   pub held : heldOf s b e ≤ mostHeld

@@ -1,3 +1,4 @@
+-- `write_plan::append` meets its contract. Assumes nothing.
 use borrow.Author.Needs.{needs}
 use Rattle.write_plan.proofs.Appends.{appends}
 use Rattle.write_plan.proofs.append.Statement.{statement}
@@ -16,7 +17,7 @@ returns-2 : tie.Need-returns-2
 returns-2 c = search appends
 
 after-requires : tie.Need-after-requires
-after-requires c κs = search needs
+after-requires c κs = search appends
 
 step-requires : tie.Need-step-requires
 step-requires c κs = search needs

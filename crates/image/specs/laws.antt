@@ -1,0 +1,2 @@
+-- The laws of this crate's definitions, which other crates cite. Assumes nothing.
+pub mod Formed
