@@ -55,9 +55,9 @@ fn stopped_at_a_33rd_segment() {
 fn stopped_where_positions_are_used_up() {
     let mut desk = fresh_desk(640);
     // The end and the begin of user 0's entry 0 are the tables' cells 3206 and 3205.
-    check(&mut desk, &[("new 0 0 5", "done 0"), ("poke tables 3206 16777213", "cell 16777213")]);
-    check(&mut desk, &[("poke tables 3205 16777213", "cell 16777213"), ("writes 0 0 1 0", "rest 38 10")]);
-    check(&mut desk, &[("end 0 0", "done 16777215"), ("writes 0 0 1 0", "rest 40 10")]);
+    check(&mut desk, &[("new 0 0 5", "done 0"), ("poke tables 3206 4294967293", "cell 4294967293")]);
+    check(&mut desk, &[("poke tables 3205 4294967293", "cell 4294967293"), ("writes 0 0 1 0", "rest 38 10")]);
+    check(&mut desk, &[("end 0 0", "done 4294967295"), ("writes 0 0 1 0", "rest 40 10")]);
 }
 
 #[test]

@@ -137,7 +137,10 @@ fn the_order_of_refusals() {
 fn positions_used_up_and_a_33rd_segment() {
     let mut desk = desk_of(32, &[]);
     // The end and the begin of user 0's entry 0 are the tables' cells 3206 and 3205.
-    check(&mut desk, &[("poke tables 3206 16777215", "cell 16777215"), ("poke tables 3205 16777215", "cell 16777215")]);
+    check(
+        &mut desk,
+        &[("poke tables 3206 4294967295", "cell 4294967295"), ("poke tables 3205 4294967295", "cell 4294967295")],
+    );
     check(&mut desk, &[("write_signed 0 0 1 32768", "refused 23"), ("write_signed 0 0 1 32767", "refused 10")]);
     let mut desk = desk_of(32, &[]);
     repeat(&mut desk, 32 * 128, "write_signed 0 0 1 -1", "done 0");

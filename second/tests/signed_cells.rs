@@ -8,9 +8,10 @@ use filing::text::answering::Desk;
 
 /// Document 01's image of "one private file "a" of user 2, species 5, b = 1, e = 2, segment 0" has 0xFFAD0000 in cell 3:
 /// nine bits of the name, owner 010, private 1, species 101. With species 110 the last three bits are one more.
-const CELLS_BEFORE: [u32; 3] = [0x0110_0000, 0x95FF_FFFF, 0xFFFF_FFFF];
+const CELLS_BEFORE: [u32; 3] = [0x0210_0000, 0x95FF_FFFF, 0xFFFF_FFFF];
 const SPECIES_CELL: u32 = 0xFFAE_0000;
-const CELL_AFTER: u32 = 0x0100_0002;
+/// In form 2 the 32 bits of begin 1 and of end 2 follow.
+const CELLS_AFTER: [u32; 2] = [0x0001_0000, 0x0002_0000];
 
 /// That file with the element -5, saved in image 0.
 fn desk_with_a_saved_file() -> Desk {
@@ -24,8 +25,9 @@ fn desk_with_a_saved_file() -> Desk {
 fn the_saved_image() {
     let mut desk = desk_with_a_saved_file();
     check_cells(&mut desk, "image0", 0, &CELLS_BEFORE);
-    check_cells(&mut desk, "image0", 3, &[SPECIES_CELL, CELL_AFTER]);
-    check_cells(&mut desk, "image0", 5, &[0; 892]);
+    check_cells(&mut desk, "image0", 3, &[SPECIES_CELL]);
+    check_cells(&mut desk, "image0", 4, &CELLS_AFTER);
+    check_cells(&mut desk, "image0", 6, &[0; 955]);
     check_cells(&mut desk, "store", 0, &[0xFFFB_0000, 0]);
 }
 

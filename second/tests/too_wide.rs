@@ -86,7 +86,10 @@ fn after_the_earlier_refusals() {
 fn before_positions_used_up() {
     let mut desk = desk_of(3, 1, &[]);
     // The end and the begin of user 0's entry 0 are the tables' cells 3206 and 3205.
-    check(&mut desk, &[("poke tables 3206 16777215", "cell 16777215"), ("poke tables 3205 16777215", "cell 16777215")]);
+    check(
+        &mut desk,
+        &[("poke tables 3206 4294967295", "cell 4294967295"), ("poke tables 3205 4294967295", "cell 4294967295")],
+    );
     check_refused(&mut desk, "write 0 0 1 256", "refused 23");
     check_refused(&mut desk, "write 0 0 1 255", "refused 10");
 }

@@ -72,9 +72,12 @@ fn stopped_by_23_and_not_by_9() {
 fn stopped_by_23_and_not_by_10() {
     let mut desk = desk_of_bytes(1, &[]);
     // The end and the begin of user 0's entry 0 are the tables' cells 3206 and 3205.
-    check(&mut desk, &[("poke tables 3206 16777214", "cell 16777214"), ("poke tables 3205 16777214", "cell 16777214")]);
+    check(
+        &mut desk,
+        &[("poke tables 3206 4294967294", "cell 4294967294"), ("poke tables 3205 4294967294", "cell 4294967294")],
+    );
     put_into_list0(&mut desk, &[1, 256, 2]);
-    check(&mut desk, &[("writes 0 0 1 0", "rest 2 23"), ("end 0 0", "done 16777215")]);
+    check(&mut desk, &[("writes 0 0 1 0", "rest 2 23"), ("end 0 0", "done 4294967295")]);
     put_into_list0(&mut desk, &[2, 256]);
     check(&mut desk, &[("writes 0 0 1 0", "rest 2 10")]);
 }

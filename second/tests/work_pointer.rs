@@ -110,10 +110,10 @@ fn a_begin_that_is_not_1() {
 fn the_greatest_end() {
     let mut desk = fresh_desk(64);
     // The end and the begin of user 0's entry 0 are the tables' cells 3206 and 3205.
-    check(&mut desk, &[("new 0 0 5", "done 0"), ("poke tables 3206 16777214", "cell 16777214")]);
-    check(&mut desk, &[("poke tables 3205 16777214", "cell 16777214"), ("write 0 0 1 7", "done 0")]);
+    check(&mut desk, &[("new 0 0 5", "done 0"), ("poke tables 3206 4294967294", "cell 4294967294")]);
+    check(&mut desk, &[("poke tables 3205 4294967294", "cell 4294967294"), ("write 0 0 1 7", "done 0")]);
     close_and_open(&mut desk, "work");
-    check(&mut desk, &[("value 0 0 2", "done 16777215"), ("write 0 0 2 9", "refused 7"), ("prev 0 0 2", "done 7")]);
+    check(&mut desk, &[("value 0 0 2", "done 4294967295"), ("write 0 0 2 9", "refused 7"), ("prev 0 0 2", "done 7")]);
 }
 
 /// "Reset puts pointer 2 at the begin value", and nothing else in the tables differs from an opening that stood there.

@@ -6,7 +6,7 @@ use common::{answer, check, fresh_desk, repeat};
 use filing::text::answering::Desk;
 
 fn check_image0(desk: &mut Desk, first_cells: &[u32]) {
-    for cell in 0..897 {
+    for cell in 0..961 {
         let wanted = format!("cell {}", first_cells.get(cell).unwrap_or(&0));
         assert_eq!(answer(desk, &format!("peek image0 {}", cell)), wanted, "cell {} of the image", cell);
     }
@@ -74,14 +74,17 @@ fn an_own_pointer_at_the_end() {
     check(&mut desk, &[("end 0 0", "done 3"), ("value 0 0 3", "done 2")]);
 }
 
+/// Document 02: "both saved images are form 2, with 0x02100000 first". The begin's 32 bits are the lower half of cell 3 and
+/// the upper half of cell 4, the end's follow.
 #[test]
 fn the_two_saved_images() {
     let mut desk = fresh_desk(8192);
     check(&mut desk, &[("save 0", "done 0")]);
-    check_image0(&mut desk, &[0x0110_0000]);
+    check_image0(&mut desk, &[0x0210_0000]);
     check(&mut desk, &[("new 2 0 5", "done 0"), ("write 2 0 1 7", "done 0"), ("rename 2 0 a", "done 0")]);
     check(&mut desk, &[("close 2 0", "done 0"), ("save 0", "done 0")]);
-    check_image0(&mut desk, &[0x0110_0000, 0x95FF_FFFF, 0xFFFF_FFFF, 0xFFAD_0000, 0x0100_0002]);
+    let file = [0x95FF_FFFF, 0xFFFF_FFFF, 0xFFAD_0000, 0x0001_0000, 0x0002_0000];
+    check_image0(&mut desk, &[&[0x0210_0000], &file[..]].concat());
 }
 
 #[test]
@@ -98,9 +101,9 @@ fn abandoned_work_leaves_the_file_as_it_was() {
 fn positions_are_used_up() {
     let mut desk = fresh_desk(8192);
     // The end and the begin of user 0's entry 0 are the tables' cells 3206 and 3205.
-    check(&mut desk, &[("new 0 0 5", "done 0"), ("poke tables 3206 16777214", "cell 16777214")]);
-    check(&mut desk, &[("free 0", "refused 20"), ("poke tables 3205 16777214", "cell 16777214")]);
-    check(&mut desk, &[("write 0 0 1 1", "done 0"), ("end 0 0", "done 16777215")]);
+    check(&mut desk, &[("new 0 0 5", "done 0"), ("poke tables 3206 4294967294", "cell 4294967294")]);
+    check(&mut desk, &[("free 0", "refused 20"), ("poke tables 3205 4294967294", "cell 4294967294")]);
+    check(&mut desk, &[("write 0 0 1 1", "done 0"), ("end 0 0", "done 4294967295")]);
     check(&mut desk, &[("write 0 0 1 1", "refused 10"), ("prev 0 0 1", "done 1"), ("write 0 0 1 1", "done 0")]);
 }
 

@@ -9,6 +9,9 @@ pub const SEGMENTS_CELL: usize = 0;
 /// "Their one length is 4,993 cells."
 pub const TABLES_LENGTH: usize = 4_993;
 
+/// In the cell of an own pointer: "0: no such pointer".
+pub const NO_SUCH_POINTER: u32 = 0;
+
 /// A record: "the fields of the image's record in the image's order, one a cell."
 pub mod record {
     use super::{Range, MOST_HELD, NAME_SYMBOLS};
@@ -34,7 +37,6 @@ pub mod opening {
     pub const BEGIN: usize = 4;
     pub const END: usize = 5;
     pub const WORK: usize = 6;
-    /// "0: no such pointer"
     pub const OWN: Range<usize> = 7..12;
     pub const NAME: Range<usize> = 12..12 + NAME_SYMBOLS;
     pub const LIST: Range<usize> = 24..24 + MOST_HELD;

@@ -1,6 +1,6 @@
 //! What the numbers of one record or one opening say by themselves, and whether they may say it.
 
-use super::fields::{opening as of_opening, record as of_record};
+use super::fields::{opening as of_opening, record as of_record, NO_SUCH_POINTER};
 use crate::model::store::Segment;
 use crate::rules::name::Name;
 use crate::rules::sizes::{GREATEST_END, MOST_HELD, OWN_POINTERS, PLACES, USERS};
@@ -127,10 +127,11 @@ pub fn judged_opening(user: usize, numbers: &[u32], segments: usize) -> Result<O
     }
     let mut own = [None; OWN_POINTERS];
     for (pointer, &value) in own.iter_mut().zip(&numbers[of_opening::OWN]) {
-        if value > GREATEST_END {
-            return Err(Unsound);
-        }
-        *pointer = if value == 0 { None } else { Some(value) };
+        *pointer = match value {
+            NO_SUCH_POINTER => None,
+            value if VALUES.contains(&value) => Some(value),
+            _ => return Err(Unsound),
+        };
     }
     Ok(Some(OpeningOutline { user, place, permit, name, file, work, own }))
 }

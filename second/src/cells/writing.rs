@@ -1,6 +1,6 @@
 //! From what is kept to the numbers of records and openings, and to the tables' cells.
 
-use super::fields::{self, opening as of_opening, record as of_record, TABLES_LENGTH};
+use super::fields::{self, opening as of_opening, record as of_record, NO_SUCH_POINTER, TABLES_LENGTH};
 use crate::model::catalogue::Catalogue;
 use crate::model::file::File;
 use crate::model::opening::Opening;
@@ -34,7 +34,7 @@ pub fn opening_numbers(opening: Option<&Opening>) -> [u32; of_opening::COUNT] {
         numbers[of_opening::END] = opening.file.end();
         numbers[of_opening::WORK] = opening.work;
         for (number, own) in numbers[of_opening::OWN].iter_mut().zip(opening.own) {
-            *number = own.unwrap_or(0);
+            *number = own.unwrap_or(NO_SUCH_POINTER);
         }
         numbers[of_opening::NAME].copy_from_slice(&opening.name.symbols());
         write_list(&mut numbers[of_opening::LIST], &opening.file);

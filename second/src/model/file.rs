@@ -68,7 +68,9 @@ impl File {
             return 0;
         }
         let stretches = self.species.held_stretches(self.begin, self.end());
-        stretches.end * self.species.elements_in_a_segment() - (self.begin - 1)
+        // The end of the last stretch may lie one beyond the greatest number of a cell.
+        let positions_up_to_its_end = u64::from(stretches.end) * u64::from(self.species.elements_in_a_segment());
+        (positions_up_to_its_end - u64::from(self.begin - 1)) as u32
     }
 
     /// The element at a position of the file.

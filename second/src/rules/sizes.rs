@@ -18,8 +18,9 @@ pub const MOST_SEGMENTS: usize = 1024;
 /// "A file holds at most 32 segments."
 pub const MOST_HELD: usize = 32;
 
-/// "The begin and end values are 1 to 16,777,215."
-pub const GREATEST_END: u32 = 16_777_215;
+/// Document 02: "Raise the begin and end limit to 4,294,967,295." No cell holds a greater number, so what is added to a
+/// position must not go beyond it.
+pub const GREATEST_END: u32 = 4_294_967_295;
 
 /// "Names have at most 12 symbols."
 pub const NAME_SYMBOLS: usize = 12;

@@ -115,6 +115,15 @@ mod tests {
     }
 
     #[test]
+    fn held_stretches_at_the_end_of_positions() {
+        let last = u32::MAX;
+        assert_eq!(species(5).held_stretches(last - 1, last), 67_108_863..67_108_864);
+        assert_eq!(species(0).held_stretches(last - 1, last), 2_097_151..2_097_152);
+        assert_eq!(species(5).held_stretches(last, last).len(), 0);
+        assert_eq!(species(5).held_stretches(1, last).len(), 67_108_864);
+    }
+
+    #[test]
     fn what_a_species_takes() {
         assert!(!species(3).takes(300));
         let ends = [

@@ -4,7 +4,7 @@ use super::arguments::text_of;
 use super::teller::Teller;
 use super::wrong_values::{kind_in_opening, kind_in_record};
 use crate::cells::fields::{self, opening as of_opening, record as of_record, TABLES_LENGTH};
-use crate::cells::image::{field_bits, unpacked_record, IMAGE_LENGTH, RECORD_CELLS};
+use crate::cells::image::{FORM, IMAGE_LENGTH};
 use crate::rules::sizes::PLACES;
 use crate::text::line::BufferName;
 
@@ -147,12 +147,12 @@ impl Teller {
         match self.random.weighted(&[65, 15, 20]) {
             0 => {
                 let place = self.a_used_place();
-                let start = 1 + RECORD_CELLS * place;
-                let mut numbers = unpacked_record(&before[start..start + RECORD_CELLS]);
+                let mut record = FORM.unpacked_record(&before[FORM.cells_of(place)]);
                 let field = self.a_record_field();
-                let limit = 1 << field_bits(field);
-                numbers[field] = self.a_trial_value(kind_in_record(field), numbers[field]) % limit;
-                self.put_into_image(image, place, &numbers);
+                let number = &mut record.numbers[field];
+                let bits_that_fit = u32::MAX >> (u32::BITS - FORM.field_bits(field));
+                *number = self.a_trial_value(kind_in_record(field), *number) & bits_that_fit;
+                self.put_into_image(image, place, &record);
             }
             1 => {
                 let cell = self.random.index(IMAGE_LENGTH);

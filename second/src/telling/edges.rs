@@ -14,12 +14,12 @@ impl Teller {
         if self.gives_up_after(&opened) {
             return;
         }
-        let position = GREATEST_END - self.random.pick(&[0, 0, 1, 1, 2, 3, 5, 20]);
+        let position = self.a_position_near_the_end();
         self.move_empty_file(user, entry, position);
         if self.random.chance(30) {
-            // One more than the greatest end is no end.
+            // One more than the greatest end is no number of a cell; what a sum of 32 bits makes of it is no end.
             self.move_empty_file(user, entry, GREATEST_END);
-            self.move_end(user, entry, GREATEST_END + 1);
+            self.move_end(user, entry, GREATEST_END.wrapping_add(1));
             self.say("free 1");
             self.move_end(user, entry, GREATEST_END);
             self.say("free 1");
@@ -71,6 +71,9 @@ impl Teller {
             self.append_a_run(user, entry, count);
         }
         self.append_some(user, entry, 6);
+        if self.random.chance(60) {
+            self.write_too_wide(user, entry);
+        }
         self.work_at_the_edge(user, entry);
         if self.random.chance(60) {
             self.say(format!("rename {} {} big", user, entry));
@@ -84,7 +87,7 @@ impl Teller {
     /// Appends, drops at both ends, reads and writes in between.
     fn work_at_the_edge(&mut self, user: u32, entry: u32) {
         for _ in 0..self.random.between(4, 24) {
-            match self.random.weighted(&[9, 4, 4, 3, 2, 2, 2, 1]) {
+            match self.random.weighted(&[9, 4, 4, 3, 2, 2, 2, 2, 1]) {
                 0 => self.append_some(user, entry, 1),
                 1 => {
                     self.prev(user, entry, END);
@@ -106,6 +109,9 @@ impl Teller {
                     self.append_a_run(user, entry, few);
                 }
                 6 => self.write_too_wide(user, entry),
+                7 => {
+                    self.write(user, entry, BEGIN);
+                }
                 _ => self.look(),
             }
         }

@@ -2,6 +2,7 @@
 
 use super::arguments::text_of;
 use super::mode::Mode;
+use super::positions::first_position;
 use super::teller::Teller;
 use crate::model::opening::{BEGIN, END, WORK};
 use crate::rules::species::Species;
@@ -37,12 +38,15 @@ impl Teller {
 
     /// Moves an empty new file to just before the end of some stretch, so that narrow species cross it soon.
     pub fn begin_near_a_boundary(&mut self, user: u32, entry: u32, species: u32) {
-        let elements = match Species::from_number(species) {
-            Some(species) => species.elements_in_a_segment(),
+        let species = match Species::from_number(species) {
+            Some(species) => species,
             None => return,
         };
-        let stretch = self.random.pick(&[1, 2, 3, 31, 32, 33, 100]);
-        let position = stretch * elements + 1 - self.random.below(6);
+        let stretch = match self.random.chance(75) {
+            true => self.random.pick(&[1, 2, 3, 31, 32, 33, 100]),
+            false => self.a_far_stretch(species),
+        };
+        let position = first_position(species, stretch) - self.random.below(6);
         self.move_empty_file(user, entry, position);
     }
 

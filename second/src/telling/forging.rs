@@ -1,12 +1,14 @@
 //! Records and openings made by poking cells, so that they are sound and far from where appending alone leads.
 
 use super::arguments::text_of;
+use super::positions::{first_position, further_on, top_stretch};
 use super::teller::Teller;
 use crate::cells::fields::{self, opening as of_opening, record as of_record};
-use crate::cells::image::{packed_record, RECORD_CELLS};
+use crate::cells::form::RecordBits;
+use crate::cells::image::FORM;
 use crate::model::store::Segment;
 use crate::rules::name::Name;
-use crate::rules::sizes::{GREATEST_END, PLACES};
+use crate::rules::sizes::PLACES;
 use crate::rules::species::Species;
 use crate::text::line::BufferName;
 
@@ -27,26 +29,30 @@ impl Teller {
         if held == 0 {
             return None;
         }
+        let last = self.a_last_stretch(species, held);
         let elements = species.elements_in_a_segment();
-        let top = species.stretch_of(GREATEST_END - 1);
-        let last = match self.random.below(3) {
-            0 => held - 1,
-            1 => self.random.between(held - 1, top),
-            _ => top,
+        let beyond_begin = match self.random.chance(50) {
+            true => 0,
+            false => self.random.below(elements),
         };
-        let start_of_first = (last + 1 - held) * elements + 1;
-        let start_of_last = last * elements + 1;
-        let begin = match self.random.chance(50) {
-            true => start_of_first,
-            false => start_of_first + self.random.below(elements),
+        let beyond_last = match self.random.chance(75) {
+            true => elements - self.random.below(4),
+            false => 1 + self.random.below(elements),
         };
-        let end = match self.random.chance(75) {
-            true => start_of_last + elements - self.random.below(4),
-            false => start_of_last + 1 + self.random.below(elements),
-        };
+        let end = further_on(first_position(species, last), beyond_last);
+        let begin = further_on(first_position(species, last + 1 - held), beyond_begin);
         // In one single stretch the begin may have come out after the end.
-        let end = end.min(GREATEST_END);
         Some(Shape { species, begin: begin.min(end - 1), end, segments })
+    }
+
+    fn a_last_stretch(&mut self, species: Species, held: u32) -> u32 {
+        let (lowest, top) = (held - 1, top_stretch(species));
+        match self.random.weighted(&[30, 20, 15, 35]) {
+            0 => lowest,
+            1 => self.random.between(lowest, top),
+            2 => self.a_far_stretch(species).max(lowest),
+            _ => top,
+        }
     }
 
     /// The fifty numbers of a record.
@@ -82,7 +88,7 @@ impl Teller {
         let numbers = self.record_of(owner, &symbols, &shape);
         let place = self.a_place();
         if by_image {
-            self.put_into_image(image, place, &numbers);
+            self.put_into_image(image, place, &RecordBits::with_zero_bits(numbers));
             self.say(format!("load {}", image));
         } else {
             self.put_into_tables(place, &numbers);
@@ -103,10 +109,10 @@ impl Teller {
         }
     }
 
-    /// Puts a record's numbers into an image that was saved.
-    pub fn put_into_image(&mut self, image: usize, place: usize, numbers: &[u32; of_record::COUNT]) {
-        for (offset, cell) in packed_record(numbers).iter().enumerate() {
-            self.poke(BufferName::Image(image), 1 + RECORD_CELLS * place + offset, *cell);
+    /// Puts a record's bits into an image that was saved.
+    pub fn put_into_image(&mut self, image: usize, place: usize, record: &RecordBits) {
+        for (cell, value) in FORM.cells_of(place).zip(FORM.packed_record(record)) {
+            self.poke(BufferName::Image(image), cell, value);
         }
     }
 

@@ -21,7 +21,8 @@ impl Random {
     }
 
     pub fn between(&mut self, low: u32, high: u32) -> u32 {
-        low + self.below(high - low + 1)
+        let count = u64::from(high - low) + 1;
+        low + (self.any() % count) as u32
     }
 
     pub fn index(&mut self, length: usize) -> usize {

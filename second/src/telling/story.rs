@@ -4,14 +4,14 @@ use super::mode::Mode;
 use super::teller::Teller;
 
 /// How often each story is told, in the order of `tell_a_story`.
-fn weights(mode: Mode) -> [u32; 26] {
+fn weights(mode: Mode) -> [u32; 29] {
     match mode {
-        Mode::Mixed => [16, 12, 18, 8, 8, 5, 2, 3, 4, 6, 3, 12, 3, 8, 4, 4, 5, 5, 4, 5, 6, 12, 18, 28, 7, 5],
-        Mode::Calm => [20, 20, 24, 12, 12, 7, 2, 4, 0, 0, 0, 0, 0, 0, 0, 0, 0, 5, 0, 0, 0, 14, 18, 24, 9, 6],
-        Mode::Small => [16, 20, 20, 8, 8, 3, 1, 10, 2, 2, 0, 3, 1, 3, 1, 1, 2, 4, 2, 1, 2, 14, 7, 18, 7, 6],
-        Mode::Edge => [6, 4, 8, 6, 4, 2, 1, 1, 16, 20, 14, 2, 2, 2, 1, 1, 1, 4, 2, 1, 1, 8, 6, 12, 6, 4],
-        Mode::Damage => [6, 10, 8, 3, 6, 2, 1, 1, 2, 4, 1, 36, 8, 24, 9, 9, 8, 5, 3, 3, 5, 12, 6, 12, 8, 4],
-        Mode::Bytes => [10, 8, 8, 4, 4, 2, 1, 1, 1, 1, 1, 2, 1, 2, 1, 1, 2, 2, 1, 50, 3, 6, 6, 2, 5, 3],
+        Mode::Mixed => [16, 12, 18, 8, 8, 5, 2, 3, 4, 6, 3, 12, 3, 8, 4, 4, 5, 5, 4, 5, 6, 12, 24, 30, 7, 5, 5, 4, 5],
+        Mode::Calm => [20, 20, 24, 12, 12, 7, 2, 4, 0, 0, 0, 0, 0, 0, 0, 0, 0, 5, 0, 0, 0, 14, 18, 24, 9, 6, 0, 0, 0],
+        Mode::Small => [16, 20, 20, 8, 8, 3, 1, 10, 2, 2, 0, 3, 1, 3, 1, 1, 2, 4, 2, 1, 2, 14, 7, 18, 7, 6, 4, 3, 3],
+        Mode::Edge => [6, 4, 8, 6, 4, 2, 1, 1, 16, 20, 14, 2, 2, 2, 1, 1, 3, 4, 2, 1, 2, 8, 6, 18, 6, 4, 12, 6, 8],
+        Mode::Damage => [6, 10, 8, 3, 6, 2, 1, 1, 2, 4, 1, 36, 8, 24, 9, 9, 8, 5, 3, 3, 5, 12, 6, 18, 8, 4, 4, 12, 10],
+        Mode::Bytes => [10, 8, 8, 4, 4, 2, 1, 1, 1, 1, 1, 2, 1, 2, 1, 1, 2, 2, 1, 50, 3, 6, 6, 2, 5, 3, 2, 2, 2],
     }
 }
 
@@ -19,7 +19,7 @@ fn weights(mode: Mode) -> [u32; 26] {
 const NEW_STARTS: u32 = 2;
 
 /// After so many lines one of the stories comes up that lead to what chance alone reaches seldom.
-const LINES_BETWEEN_RARE_STORIES: usize = 200;
+const LINES_BETWEEN_RARE_STORIES: usize = 160;
 
 impl Teller {
     pub fn tell_a_story(&mut self) {
@@ -57,13 +57,16 @@ impl Teller {
             22 => self.ask_for_namesakes(),
             23 => self.scatter_and_tidy(),
             24 => self.keep_temperatures(),
-            _ => self.meet_wide_numbers(),
+            25 => self.meet_wide_numbers(),
+            26 => self.keep_a_far_file(),
+            27 => self.offer_images(),
+            _ => self.lie_apart(),
         }
         self.look();
     }
 
     fn tell_a_rare_story(&mut self) {
-        match self.rare_stories % 12 {
+        match self.rare_stories % 15 {
             0 | 6 => self.need_a_33rd_segment(),
             1 | 7 => self.clash_with_a_name(),
             2 | 8 => self.use_many_pointers(),
@@ -75,6 +78,9 @@ impl Teller {
                 self.run_with_and_without_elements();
                 self.make_double_faults();
             }
+            11 => self.keep_a_far_file(),
+            12 => self.offer_images(),
+            13 => self.lie_apart(),
             _ => self.fill_the_catalogue(),
         }
         self.look();

@@ -86,10 +86,7 @@ impl Teller {
                 Some((place, _)) if self.random.chance(50) => place as u32 + 1,
                 _ => self.random.pick(&[0, 0, 1, 2, 63, 64, 65]),
             },
-            Kind::Position => {
-                let near = now.wrapping_add(self.random.pick(&[1, u32::MAX, 64, 2048]));
-                self.random.pick(&[near, near, 0, 1, 2, 16_777_214, 16_777_215, 16_777_216])
-            }
+            Kind::Position => self.a_trial_position(now),
             Kind::Symbol => self.random.pick(&[0, 10, 35, 36, 62, 63, 63, 64, now ^ 1]),
             Kind::Segment => self.a_trial_segment(),
         }

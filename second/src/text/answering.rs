@@ -117,7 +117,7 @@ impl Desk {
 
     /// "Save and load: 20, then 22." A save looks at the image's length alone.
     fn save(&mut self, image: usize) -> Answer {
-        let cells = image::image_of(self.tables.usable(&self.store)?);
+        let cells = image::image_of(image::FORM, self.tables.usable(&self.store)?);
         let buffer = &mut self.images[image];
         if buffer.lent != IMAGE_LENGTH {
             return Err(Refusal::ImageUnfit);

@@ -7,6 +7,8 @@ pub mod bad_lines;
 #[allow(dead_code)]
 pub mod calls;
 #[allow(dead_code)]
+pub mod far;
+#[allow(dead_code)]
 pub mod lists;
 #[allow(dead_code)]
 pub mod scattered;
