@@ -58,7 +58,7 @@ enum dorrivand_species {
 };
 
 /* The version that this header belongs to: it grows by 1 with each change that a caller can notice. */
-#define DORRIVAND_VERSION 6
+#define DORRIVAND_VERSION 7
 
 /* The version of the library that is linked. */
 uint32_t dorrivand_version(void);
@@ -88,7 +88,8 @@ uint64_t dorrivand_save(const uint32_t *store, size_t store_length, const uint32
 
 /* Load: the image's records and its number of segments, nothing open. What the tables held is not looked at. The elements
  * are those that the store's cells hold now. Over cells of another moment the load is done all the same, and a landlord's
- * file reads what a neighbour has written into its segments since the save.
+ * file reads what a neighbour has written into its segments since the save. An image that a version before 7 saved, 897 cells
+ * of form 1, is refused; tables that it left are good as they are.
  * Refusals: 20 (the lengths alone); 22. */
 uint64_t dorrivand_load(const uint32_t *store, size_t store_length, uint32_t *tables, size_t tables_length,
                         const uint32_t *image, size_t image_length);
@@ -169,12 +170,13 @@ uint64_t dorrivand_pointer(const uint32_t *store, size_t store_length, uint32_t 
 uint64_t dorrivand_delete(const uint32_t *store, size_t store_length, uint32_t *tables, size_t tables_length,
                           uint32_t user, uint32_t entry, uint32_t pointer);
 
-/* ---- Access: v is the value of the pointer, b the begin, e the end ---- */
+/* ---- Access: v is the value of the pointer, b the begin, e the end; none is above 4,294,967,295 ---- */
 
 /* Write: it, its run, the signed write and tidying are all that writes to the store. Through 1: append, e grows by 1.
  * Through 0: the first element is dropped, no segment is taken and no store cell changes. Else position v is replaced. v grows
  * by 1. No number is cut: one that is too wide for the species is refused, through 0 too.
- * Refusals: 20; 1; 2; 19 for species 6; 4; 5; 6 where v < b; 7 where v >= e, but not through 1; 23; 10; 8; 9. */
+ * Refusals: 20; 1; 2; 19 for species 6; 4; 5; 6 where v < b; 7 where v >= e, but not through 1; 23; 10 where e is
+ * 4,294,967,295, but only through 1; 8; 9. */
 uint64_t dorrivand_write(uint32_t *store, size_t store_length, uint32_t *tables, size_t tables_length,
                          uint32_t user, uint32_t entry, uint32_t pointer, uint32_t number);
 
@@ -215,7 +217,7 @@ size_t dorrivand_fill_run(const uint32_t *store, size_t store_length, uint32_t *
 uint64_t dorrivand_species(const uint32_t *store, size_t store_length, const uint32_t *tables, size_t tables_length,
                            uint32_t user, uint32_t entry);
 
-/* The claim: the number of positions from b to the end of the last held stretch, 0 for an empty file.
+/* The claim: the number of positions from b to the end of the last held stretch, even beyond 4,294,967,295; 0 for an empty file.
  * Refusals: 20; 1; 2. */
 uint64_t dorrivand_claim(const uint32_t *store, size_t store_length, const uint32_t *tables, size_t tables_length,
                          uint32_t user, uint32_t entry);

@@ -104,7 +104,7 @@
 //!
 //! The module keeps nothing anywhere but in the cells that it is lent. docs/OPERATING.md says what to write to disk, and
 //! `examples/backup.rs` does it. [`Store::tidy`] brings the files' segments together at the begin of the cells; after it a
-//! store is saved again.
+//! store is saved again. Images that a library before version 7 saved [cannot be loaded](Store::load).
 
 #![deny(missing_docs)]
 #![deny(unsafe_code)]
@@ -143,7 +143,7 @@ pub fn tables_length() -> usize {
 /// The one length of an image, in cells.
 ///
 /// ```
-/// assert_eq!(dorrivand::image_length(), 897);
+/// assert_eq!(dorrivand::image_length(), 961);
 /// ```
 #[must_use]
 pub fn image_length() -> usize {

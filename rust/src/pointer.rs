@@ -17,7 +17,7 @@ use std::ops::RangeInclusive;
 pub const BEGIN: u32 = 0;
 
 /// The end: it stands after the last element. What is written through it is appended, what is read backwards through it
-/// leaves the file.
+/// leaves the file. Where it is 4,294,967,295, nothing more is appended.
 pub const END: u32 = 1;
 
 /// The work pointer, which each opening has: at the begin when a file is new or opened for reading, at the end when an old one

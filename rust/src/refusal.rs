@@ -37,7 +37,7 @@ pub enum Refusal {
     TooManySegments = 8,
     /// 9: no room: a segment needed, none free.
     NoRoom = 9,
-    /// 10: positions used up.
+    /// 10: positions used up: the end value is 4,294,967,295, and cannot grow.
     PositionsUsedUp = 10,
     /// 11: unknown name.
     UnknownName = 11,

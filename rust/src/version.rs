@@ -4,7 +4,7 @@ use crate::door;
 
 /// The version of the library that this crate is written for. It grows by 1 with each change that a caller can notice;
 /// docs/CHANGES.md lists them.
-pub const VERSION: u32 = 6;
+pub const VERSION: u32 = 7;
 
 /// The version of the library that is linked. A [`Store`](crate::Store) is made only where it is [`VERSION`].
 ///
@@ -38,7 +38,7 @@ mod tests {
     }
 
     #[test]
-    #[should_panic(expected = "is of version 7, and this crate is written for version 6")]
+    #[should_panic(expected = "is of version 8, and this crate is written for version 7")]
     fn a_later_library() {
         check(VERSION + 1);
     }

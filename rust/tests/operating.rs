@@ -1,20 +1,13 @@
 //! What docs/OPERATING.md says of images and stores.
 
+#[path = "common/image.rs"]
+mod image;
+
 use dorrivand::{pointer, Refusal, Species, Store};
+use image::{heading, image_of};
 use std::thread;
 
 const SEGMENT_CELLS: usize = 64;
-
-/// "Cell 0: form 8 bits (1), number of segments 11 bits, 13 zero bits."
-fn heading(segments: u32) -> u32 {
-    1 << 24 | segments << 13
-}
-
-fn image_of(store: &Store) -> Vec<u32> {
-    let mut image = vec![0; dorrivand::image_length()];
-    assert_eq!(store.save(&mut image), Ok(()));
-    image
-}
 
 /// A store of two segments, both held by user 0's file "a", which is private.
 fn a_full_store() -> Store<'static> {

@@ -144,12 +144,12 @@ fn the_65th_file() {
 #[test]
 fn tables_and_images() {
     let mut store = three_files();
-    let mut image = vec![5; 896];
+    let mut image = vec![5; 960];
     refused(&mut store, 22, |store| store.save(&mut image));
-    assert!(image == [5; 896]);
-    refused(&mut store, 22, |store| store.load(&[0; 897]));
+    assert!(image == [5; 960]);
+    refused(&mut store, 22, |store| store.load(&[0; 961]));
     store.tables_mut()[0] = 4;
     refused(&mut store, 20, |store| store.free_segments(8));
     refused(&mut store, 20, |store| store.save(&mut image));
-    assert!(image == [5; 896]);
+    assert!(image == [5; 960]);
 }

@@ -1,16 +1,13 @@
 //! "Runs of elements", through the door: what is left, what is filled, what stops a run, and that it is single calls.
 
+#[path = "common/far.rs"]
+mod far;
 #[path = "common/plain.rs"]
 mod plain;
 
 use dorrivand::{pointer, Refusal, Species, Store};
+use far::{move_empty_file, GREATEST_END};
 use plain::PLAIN;
-
-/// The begin, the end and the work pointer of user 0's entry 0 in the tables (docs/TABLES.md).
-const POINTER_CELLS: [usize; 3] = [3201 + 4, 3201 + 5, 3201 + 6];
-
-/// "The begin and end values are 1 to 16,777,215."
-const GREATEST_END: u32 = 16_777_215;
 
 /// A store with a new file of this species at entry 0 of user 0.
 fn store_with_file(segments: usize, species: Species) -> Store<'static> {
@@ -96,7 +93,7 @@ fn stopped_by_room_positions_and_a_33rd_segment() {
     assert_eq!((rest, stop), (&list[2048..], Some(Refusal::TooManySegments)));
 
     let mut store = store_with_file(2, Species::Bits32);
-    POINTER_CELLS.iter().for_each(|&cell| store.tables_mut()[cell] = GREATEST_END - 2);
+    move_empty_file(&mut store, GREATEST_END - 2);
     let (rest, stop) = store.write_run(0, 0, pointer::END, &[1, 2, 3]);
     assert_eq!((rest, stop), (&[3][..], Some(Refusal::PositionsUsedUp)));
 

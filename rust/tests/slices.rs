@@ -48,7 +48,7 @@ fn cells_beyond_the_segments_stay() {
 
 #[test]
 fn tables_of_another_length() {
-    for length in [0, 1, 896, 897, 4992, 4994, 10_000] {
+    for length in [0, 1, 960, 961, 4992, 4994, 10_000] {
         let mut store = Store::from_cells(vec![0; 640], vec![0; length]);
         assert_eq!(store.fresh_start(), Err(Refusal::UnsoundTables));
         assert_eq!(store.load(&[]), Err(Refusal::UnsoundTables));

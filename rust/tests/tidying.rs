@@ -1,11 +1,14 @@
 //! "Tidying", through the door: what moves where, that files read the same, and what becomes of images.
 
 mod common;
+#[path = "common/image.rs"]
+mod image;
 #[path = "common/plain.rs"]
 mod plain;
 
 use common::scattered::*;
 use dorrivand::{pointer, Refusal, Species, Store};
+use image::{heading, image_of};
 use plain::PLAIN;
 use std::ops::Range;
 
@@ -17,11 +20,6 @@ const READING_ENTRY: u32 = 3;
 
 /// The user who has temperatures, after those with a plain species each.
 const COLD: u32 = PLAIN.len() as u32;
-
-/// "Cell 0: form 8 bits (1), number of segments 11 bits, 13 zero bits."
-fn heading(segments: usize) -> u32 {
-    1 << 24 | (segments as u32) << 13
-}
 
 fn cells_of(segment: usize) -> Range<usize> {
     segment * SEGMENT_CELLS..(segment + 1) * SEGMENT_CELLS
@@ -49,12 +47,6 @@ fn assert_scattered_files_read_the_same(store: &mut Store) {
     for (name, seed) in [("b", 2), ("d", 4), ("e", 5)] {
         assert_eq!(elements(store, 0, name), a_segment_of(seed), "{name}");
     }
-}
-
-fn image_of(store: &Store) -> Vec<u32> {
-    let mut image = vec![0; dorrivand::image_length()];
-    assert_eq!(store.save(&mut image), Ok(()));
-    image
 }
 
 #[test]

@@ -1,16 +1,13 @@
 //! "No silent cutting", through the door: which numbers are too wide, what is judged before and after, and where a run stops.
 
+#[path = "common/far.rs"]
+mod far;
 #[path = "common/plain.rs"]
 mod plain;
 
 use dorrivand::{pointer, Refusal, Species, Store};
+use far::{move_empty_file, GREATEST_END};
 use plain::PLAIN;
-
-/// The begin, the end and the work pointer of user 0's entry 0 in the tables (docs/TABLES.md).
-const POINTER_CELLS: [usize; 3] = [3201 + 4, 3201 + 5, 3201 + 6];
-
-/// "The begin and end values are 1 to 16,777,215."
-const GREATEST_END: u32 = 16_777_215;
 
 /// A store with a new file of this species at entry 0 of user 0, and these elements.
 fn store_with(segments: usize, species: Species, elements: &[u32]) -> Store<'static> {
@@ -76,7 +73,7 @@ fn what_is_judged_before() {
 #[test]
 fn what_is_judged_afterwards() {
     let mut used_up = store_with(1, Species::Bits8, &[]);
-    POINTER_CELLS.iter().for_each(|&cell| used_up.tables_mut()[cell] = GREATEST_END);
+    move_empty_file(&mut used_up, GREATEST_END);
     let held = store_with(32, Species::Bits16, &[7; 32 * 128]);
     let mut full = store_with(1, Species::Bits32, &[7]);
     assert_eq!((full.rename(0, 0, "a"), full.close_private(0, 0)), (Ok(()), Ok(())));

@@ -1,10 +1,10 @@
 //! "Worked examples", through the door.
 
-use dorrivand::{pointer, Refusal, Species, Store};
+#[path = "common/far.rs"]
+mod far;
 
-/// The begin and the end of user 0's entry 0 in the tables (docs/TABLES.md).
-const BEGIN_CELL: usize = 3201 + 4;
-const END_CELL: usize = 3201 + 5;
+use dorrivand::{pointer, Refusal, Species, Store};
+use far::{move_empty_file, GREATEST_END};
 
 fn store(segments: usize) -> Store<'static> {
     Store::with_segments(segments).expect("there is a segment")
@@ -26,7 +26,7 @@ fn symbols(store: &Store) -> Vec<u32> {
 
 /// The saved image, which must be these cells and zeros after them.
 fn assert_image(store: &Store, first_cells: &[u32]) {
-    let mut image = vec![u32::MAX; 897];
+    let mut image = vec![u32::MAX; 961];
     assert_eq!(store.save(&mut image), Ok(()));
     assert_eq!(&image[..first_cells.len()], first_cells);
     assert!(image[first_cells.len()..].iter().all(|&cell| cell == 0));
@@ -97,15 +97,16 @@ fn an_own_pointer_at_the_end() {
     assert_eq!(store.end(0, 0), Ok(3));
 }
 
+/// "both saved images are form 2, with 0x02100000 first"
 #[test]
 fn the_two_saved_images() {
     let mut store = store(128);
-    assert_image(&store, &[0x0110_0000]);
+    assert_image(&store, &[0x0210_0000]);
     assert_eq!(store.open_new(2, 0, Species::Bits32), Ok(()));
     assert_eq!(store.write(2, 0, pointer::END, 1), Ok(()));
     assert_eq!(store.rename(2, 0, "a"), Ok(()));
     assert_eq!(store.close_private(2, 0), Ok(()));
-    assert_image(&store, &[0x0110_0000, 0x95FF_FFFF, 0xFFFF_FFFF, 0xFFAD_0000, 0x0100_0002]);
+    assert_image(&store, &[0x0210_0000, 0x95FF_FFFF, 0xFFFF_FFFF, 0xFFAD_0000, 0x0001_0000, 0x0002_0000]);
 }
 
 #[test]
@@ -140,13 +141,13 @@ fn a_work_opening_starts_at_the_end() {
     assert_eq!((store.next(0, 0, pointer::WORK), store.next(0, 0, pointer::WORK)), (Ok(10), Ok(20)));
 }
 
+/// "append is done at e = 4,294,967,294 and 10 at 4,294,967,295"
 #[test]
 fn positions_are_used_up() {
     let mut store = store_with(1, 5, &[]);
-    store.tables_mut()[BEGIN_CELL] = 16_777_214;
-    store.tables_mut()[END_CELL] = 16_777_214;
+    move_empty_file(&mut store, 4_294_967_294);
     assert_eq!(store.write(0, 0, pointer::END, 8), Ok(()));
-    assert_eq!(store.end(0, 0), Ok(16_777_215));
+    assert_eq!(store.end(0, 0), Ok(GREATEST_END));
     assert_eq!(store.write(0, 0, pointer::END, 9), Err(Refusal::PositionsUsedUp));
 }
 

@@ -3,6 +3,7 @@
 
 pub mod buffer;
 pub mod door;
+pub mod law;
 pub mod line;
 pub mod pair;
 pub mod random;

@@ -1,9 +1,10 @@
 //! The library and the second program side by side: every line to both, and all that they say and hold compared.
 
 use crate::door::Door;
+use crate::law::is_lawful;
 use crate::line::Line;
 use crate::reply::Reply;
-use crate::tally::{is_lawful, Tally};
+use crate::tally::Tally;
 use filing::text::answering::Desk;
 use filing::text::line::BufferName;
 

@@ -1,65 +1,39 @@
-//! How often each call had each outcome, and which outcomes the law knows.
+//! How often each call had each outcome, and what was seen besides.
 
+use crate::law::{MIDWAY, OF_EMPTY_LISTS, REFUSALS};
 use crate::line::{call, CALLS};
 use crate::reply::Reply;
 use dorrivand::{pointer, Refusal};
 
 const OUTCOMES: usize = 24;
 
-/// The refusals of each call, in the order of `CALLS` and, within a call, of the documents.
-pub const REFUSALS: [&[u32]; CALLS.len()] = [
-    &[20],                          // fresh
-    &[20, 22],                      // save
-    &[20, 22],                      // load
-    &[20, 14],                      // tidy
-    &[20, 1],                       // free
-    &[20, 1, 2, 3, 19],             // new
-    &[20, 1, 2, 3, 15, 11, 13, 14], // work
-    &[20, 1, 2, 3, 15, 11, 14],     // read
-    &[20, 1, 2, 5],                 // rename
-    &[20, 1, 2, 16, 17],            // close
-    &[20, 1, 2, 18, 16, 17],        // public
-    &[20, 1, 2],                    // abandon
-    &[20, 1, 2],                    // reset
-    &[20, 1, 2, 4, 21],             // pointer
-    &[20, 1, 2, 4],                 // delete
-    OF_A_WRITE,                     // write
-    OF_A_READING,                   // next
-    OF_A_READING,                   // prev
-    OF_A_WRITE,                     // write_signed
-    OF_A_READING,                   // next_signed
-    OF_A_READING,                   // prev_signed
-    OF_A_WRITE,                     // writes
-    OF_A_READING,                   // nexts
-    &[20, 1, 2],                    // species
-    &[20, 1, 2],                    // claim
-    &[20, 1, 2],                    // permit
-    &[20, 1, 2],                    // symbol
-    &[20, 1, 2],                    // begin
-    &[20, 1, 2],                    // end
-    &[20, 1, 2, 4],                 // value
-];
-
-/// Those of a call that takes an element, and of one that gives it, plain or signed.
-const OF_A_WRITE: &[u32] = &[20, 1, 2, 19, 4, 5, 6, 7, 23, 10, 8, 9];
-const OF_A_READING: &[u32] = &[20, 1, 2, 19, 4, 5, 6, 7];
-
-/// "a list of length 0 still gets refusals 20, 1, 2, 4, 5 where they apply", and 19 "at length 0 too".
-pub const OF_EMPTY_LISTS: [u32; 6] = [20, 1, 2, 19, 4, 5];
-
-/// What can stop a run after some of its elements: the other refusals meet its first element or none.
-const MIDWAY: [(&str, &[u32]); 2] = [("writes", &[7, 23, 10, 8, 9]), ("nexts", &[7])];
-
 /// Whether a call with these numbers and this reply shows something that its outcome does not.
 type Shows = fn([u32; 4], &Reply) -> bool;
 
-const TELLING: [(&str, &str, Shows); 6] = [
+const TELLING: [(&str, &str, Shows); 9] = [
     ("tidy", "that moves something", |_, reply| reply.number() > Some(0)),
     ("next_signed", "of a number below zero", is_below_zero),
     ("prev_signed", "of a number below zero", is_below_zero),
     ("write", "through the begin refused 23", is_judged_though_dropped),
     ("write_signed", "through the begin refused 23", is_judged_though_dropped),
     ("writes", "through the begin stopped by 23", is_judged_though_dropped),
+    ("begin", "of 4,294,967,295", is_the_greatest_end),
+    ("end", "of 4,294,967,295", is_the_greatest_end),
+    ("value", "of 4,294,967,295", is_the_greatest_end),
+];
+
+/// What a load refuses in an image that is sound but for it.
+#[derive(Clone, Copy)]
+pub enum Spoiling {
+    SpareBit,
+    Form1,
+    OldLength,
+}
+
+pub const SPOILINGS: [(Spoiling, &str); 3] = [
+    (Spoiling::SpareBit, "a bit set at a record's end"),
+    (Spoiling::Form1, "form number 1"),
+    (Spoiling::OldLength, "897 cells"),
 ];
 
 fn is_below_zero(_: [u32; 4], reply: &Reply) -> bool {
@@ -69,6 +43,10 @@ fn is_below_zero(_: [u32; 4], reply: &Reply) -> bool {
 /// "Write through pointer 0 is judged too."
 fn is_judged_though_dropped([_, _, through, _]: [u32; 4], reply: &Reply) -> bool {
     through == pointer::BEGIN && reply.refusal() == Some(Refusal::TooWide)
+}
+
+fn is_the_greatest_end(_: [u32; 4], reply: &Reply) -> bool {
+    reply.number() == Some(4_294_967_295)
 }
 
 #[derive(Default)]
@@ -81,6 +59,8 @@ pub struct Tally {
     empty: [[u64; OUTCOMES]; CALLS.len()],
     /// Calls that showed more, in the order of `TELLING`.
     telling: [u64; TELLING.len()],
+    /// Loads that were refused for nothing but this, by `Spoiling`.
+    spoiled: [u64; SPOILINGS.len()],
 }
 
 impl Tally {
@@ -94,6 +74,10 @@ impl Tally {
         }
     }
 
+    pub fn count_spoiled(&mut self, spoiling: Spoiling) {
+        self.spoiled[spoiling as usize] += 1;
+    }
+
     pub fn calls(&self) -> u64 {
         self.counts.iter().flatten().sum()
     }
@@ -101,7 +85,8 @@ impl Tally {
     pub fn add(&mut self, other: &Tally) {
         let mine = [&mut self.counts, &mut self.midway, &mut self.empty].into_iter().flatten().flatten();
         let others = [&other.counts, &other.midway, &other.empty].into_iter().flatten().flatten();
-        for (count, more) in mine.chain(&mut self.telling).zip(others.chain(&other.telling)) {
+        let (mine, others) = (mine.chain(&mut self.telling), others.chain(&other.telling));
+        for (count, more) in mine.chain(&mut self.spoiled).zip(others.chain(&other.spoiled)) {
             *count += more;
         }
     }
@@ -150,24 +135,9 @@ impl Tally {
         for ((word, what, _), count) in TELLING.iter().zip(self.telling) {
             sights.push((format!("{word} {what}"), count));
         }
+        for (spoiling, what) in SPOILINGS {
+            sights.push((format!("load refused for {what} alone"), self.spoiled[spoiling as usize]));
+        }
         sights
-    }
-}
-
-/// Whether the law gives this call such an answer at all.
-pub fn is_lawful(call: usize, reply: &Reply) -> bool {
-    let refusal = reply.outcome();
-    let known = refusal == 0 || REFUSALS[call].contains(&refusal);
-    known && reply.elements().map_or(true, |elements| is_lawful_run(CALLS[call], elements, refusal))
-}
-
-/// A run that nothing stops has dealt with its whole list; a stopped one has not, unless the list is empty.
-fn is_lawful_run(word: &str, (done, length): (usize, usize), refusal: u32) -> bool {
-    let midway = || MIDWAY.iter().any(|(run, refusals)| *run == word && refusals.contains(&refusal));
-    match (done, length, refusal) {
-        (_, _, 0) => done == length,
-        (0, 0, _) => OF_EMPTY_LISTS.contains(&refusal),
-        (0, _, _) => true,
-        _ => done < length && midway(),
     }
 }

@@ -106,6 +106,12 @@ impl Teller {
         self.mostly(self.entries(|opening| opening.is_some_and(|opening| opening.permit)))
     }
 
+    /// With an empty file that can be written to.
+    pub fn empty_entries(&self) -> Vec<(u32, u32)> {
+        let is_empty = |opening: &Opening| opening.permit && opening.file.begin() == opening.file.end();
+        self.entries(|opening| opening.is_some_and(is_empty))
+    }
+
     pub fn closed_entry(&mut self) -> (u32, u32) {
         self.mostly(self.entries(|opening| opening.is_none()))
     }

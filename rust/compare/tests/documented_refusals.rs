@@ -1,8 +1,8 @@
 //! The headers and the crate's documentation list for each call the refusals that `compare` sees it give, and no others, in the
 //! order in which they are judged.
 
+use compare::law::{OF_EMPTY_LISTS, REFUSALS};
 use compare::line::{call, CALLS};
-use compare::tally::{OF_EMPTY_LISTS, REFUSALS};
 use std::fs;
 use std::path::Path;
 

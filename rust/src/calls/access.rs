@@ -17,8 +17,8 @@ impl Store<'_> {
     /// [`EntryNotOpen`](Refusal::EntryNotOpen) (2), [`NoSuchSpecies`](Refusal::NoSuchSpecies) (19) for signed elements,
     /// [`NotAPointer`](Refusal::NotAPointer) (4), [`NoWorkPermit`](Refusal::NoWorkPermit) (5),
     /// [`BelowBegin`](Refusal::BelowBegin) (6), [`BeyondEnd`](Refusal::BeyondEnd) (7) but not through the end,
-    /// [`TooWide`](Refusal::TooWide) (23), [`PositionsUsedUp`](Refusal::PositionsUsedUp) (10),
-    /// [`TooManySegments`](Refusal::TooManySegments) (8), [`NoRoom`](Refusal::NoRoom) (9).
+    /// [`TooWide`](Refusal::TooWide) (23), [`PositionsUsedUp`](Refusal::PositionsUsedUp) (10) for an append where the end is
+    /// 4,294,967,295, [`TooManySegments`](Refusal::TooManySegments) (8), [`NoRoom`](Refusal::NoRoom) (9).
     ///
     /// ```
     /// use dorrivand::{pointer, Refusal, Species, Store};

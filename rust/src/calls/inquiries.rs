@@ -48,7 +48,7 @@ impl Store<'_> {
     }
 
     /// The number of positions from the begin to the end of the last stretch that the file holds a segment for, 0 for an
-    /// empty file.
+    /// empty file. The last stretch of all ends beyond 4,294,967,295, the greatest end value, and is counted whole.
     ///
     /// # Errors
     ///

@@ -45,7 +45,7 @@ impl Store<'_> {
     /// let store = Store::with_segments(128)?;
     /// let mut image = vec![7; dorrivand::image_length()];
     /// store.save(&mut image)?;
-    /// assert_eq!(image[0], 0x0110_0000);
+    /// assert_eq!(image[0], 0x0210_0000);
     /// assert!(image[1..].iter().all(|&cell| cell == 0));
     /// assert_eq!(store.save(&mut [0; 10]), Err(Refusal::UnsoundImage));
     /// # Ok::<(), Refusal>(())
@@ -56,6 +56,9 @@ impl Store<'_> {
 
     /// Takes the records and the number of segments from an image; nothing is open afterwards. It does not look at
     /// what the tables held. The elements are those that the store's cells hold now.
+    ///
+    /// An image that a library before version 7 saved, 897 cells of form 1, is refused; tables that it left are good as they
+    /// are.
     ///
     /// # Errors
     ///
@@ -79,7 +82,8 @@ impl Store<'_> {
     /// store.open_read(2, 0, "a")?;
     /// assert_eq!(store.next(2, 0, pointer::WORK), Ok(77));
     ///
-    /// image[0] = 0;
+    /// // Form 2, in the first eight bits, becomes form 1.
+    /// image[0] ^= 0x0300_0000;
     /// assert_eq!(store.load(&image), Err(Refusal::UnsoundImage));
     /// # Ok::<(), Refusal>(())
     /// ```

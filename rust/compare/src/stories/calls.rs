@@ -8,7 +8,7 @@ const SPECIES: u32 = 8;
 
 impl Teller {
     pub fn any_call(&mut self) -> Told {
-        match self.random.below(16) {
+        match self.random.below(17) {
             0 | 1 => self.open_new(),
             2 | 3 => self.open_old(),
             4 => self.rename(),
@@ -17,11 +17,12 @@ impl Teller {
             8 | 9 => self.inquire(),
             10 => self.ask_the_operator(),
             11 => self.run_of_elements(),
+            12 => self.go_far(),
             _ => self.access(),
         }
     }
 
-    fn open_new(&mut self) -> Told {
+    pub fn open_new(&mut self) -> Told {
         let (user, entry) = self.closed_entry();
         let species = self.random.below(SPECIES);
         let species = self.or_wild(species);
@@ -67,7 +68,11 @@ impl Teller {
     }
 
     fn handle_pointers(&mut self) -> Told {
-        let (user, entry) = self.open_entry();
+        let at = self.open_entry();
+        self.handle_pointers_at(at)
+    }
+
+    pub fn handle_pointers_at(&mut self, (user, entry): (u32, u32)) -> Told {
         let pointer = self.pointer();
         let line = match self.random.below(8) {
             0 => format!("reset {user} {entry}"),
@@ -85,6 +90,10 @@ impl Teller {
             true => self.open_entry(),
             false => self.working_entry(),
         };
+        self.access_at(at)
+    }
+
+    pub fn access_at(&mut self, at: (u32, u32)) -> Told {
         let ((user, entry), pointer, kind) = (at, self.pointer(), self.kind_at(at));
         let line = match self.random.below(5) {
             0 => format!("{} {user} {entry} {pointer}", word("next", kind)),
@@ -96,7 +105,11 @@ impl Teller {
     }
 
     fn inquire(&mut self) -> Told {
-        let (user, entry) = self.open_entry();
+        let at = self.open_entry();
+        self.inquire_at(at)
+    }
+
+    pub fn inquire_at(&mut self, (user, entry): (u32, u32)) -> Told {
         let call = self.random.one_of(&["species", "claim", "permit", "begin", "end", "symbol", "value", "free"]);
         let line = match call {
             "symbol" => {
@@ -118,6 +131,7 @@ impl Teller {
             1..=4 => format!("load {image}"),
             5..=14 => format!("free {}", self.random.below(8)),
             15..=17 => return self.tidy(),
+            18..=20 => return self.load_spoiled(),
             _ => format!("save {image}"),
         };
         self.say(line)?;

@@ -1,6 +1,8 @@
 //! The stories.
 
 mod calls;
+mod far;
+mod images;
 mod numbers;
 mod runs;
 mod start;

@@ -12,6 +12,10 @@ impl Teller {
             true => self.open_entry(),
             false => self.working_entry(),
         };
+        self.run_at(at)
+    }
+
+    pub fn run_at(&mut self, at: (u32, u32)) -> Told {
         let (call, pointer) = (self.random.one_of(&["writes", "nexts"]), self.pointer());
         self.say_run(call, at, pointer)?;
         Ok(())

@@ -1,5 +1,6 @@
 //! Any lengths, any cells, any numbers, any bytes.
 
+use super::images::FORM_1_LENGTH;
 use crate::line::CALLS;
 use crate::teller::{Teller, Told};
 use filing::rules::element::Kind;
@@ -55,7 +56,7 @@ impl Teller {
         let (any_tables, any_image) = (self.random.below(tables + 65), self.random.below(1_025));
         let tables =
             self.random.one_of(&[0, 1, tables - 1, tables, tables, tables, tables + 1, tables + 64, any_tables]);
-        let image = self.random.one_of(&[0, 1, image - 1, image, image, image + 1, 1_024, any_image]);
+        let image = self.random.one_of(&[0, 1, FORM_1_LENGTH, image - 1, image, image, image + 1, 1_024, any_image]);
         let which = self.random.below(4);
         match self.random.below(6) {
             0 => self.say(format!("lend tables {tables}"))?,
