@@ -37,6 +37,7 @@ pub enum Call {
     NextSigned(At, u32),
     PrevSigned(At, u32),
     Value(At, u32),
+    Claim(At),
     WriteRun(At, u32, Vec<u32>),
     /// Fills so many elements of the lent list.
     FillRun(At, u32, usize),

@@ -194,7 +194,8 @@ impl Chance {
         match self.random.below(10) {
             0..=3 => Call::Rename(at, self.name()),
             4..=6 => Call::Pointer(at, self.pointer()),
-            7..=8 => Call::Value(at, self.random.mostly_below(8)),
+            7 => Call::Value(at, self.random.mostly_below(8)),
+            8 => Call::Claim(at),
             _ => Call::Free(at.0),
         }
     }

@@ -1,8 +1,8 @@
 //! Damaged cells: what is lent has a cell or two changed, a row twice, or another length.
 use crate::calls::Lent;
 use crate::random::Random;
-use crate::twin;
-use crate::twin::layout::OPENINGS;
+use crate::twin::layout::{OPENINGS, PLACES};
+use crate::{form_1, twin};
 
 /// Tables that are mostly unsound.
 pub fn tables(random: &mut Random, lent: &mut Lent) {
@@ -51,4 +51,24 @@ pub fn image(random: &mut Random, image: &mut Vec<u32>) {
         1 => image.push(0),
         _ => {}
     }
+}
+
+/// What makes any image unsound, each by itself, of document 02's P6. The tables are those that were saved.
+pub const UNSOUND_IMAGES: [fn(&mut Random, &mut Lent); 6] = [
+    // "16 zero bits at a record's end", whether the record is used or not
+    |random, lent| lent.image[15 * (1 + random.below(PLACES as u32) as usize)] ^= 1 << random.below(16),
+    // "form number 2 in cell 0"
+    |_, lent| put_form(&mut lent.image, 1),
+    |random, lent| put_form(&mut lent.image, [0, 3, 6, 130, 255][random.below(5) as usize]),
+    // "Load takes a 961-cell form 2 image only"
+    |_, lent| lent.image.truncate(form_1::LENGTH),
+    |_, lent| lent.image = form_1::image(&lent.tables),
+    |_, lent| {
+        lent.image = form_1::image(&lent.tables);
+        lent.image.resize(twin::IMAGE, 0);
+    },
+];
+
+fn put_form(image: &mut [u32], form: u32) {
+    image[0] = image[0] & 0xFF_FFFF | form << 24;
 }

@@ -5,11 +5,12 @@ pub const GREATEST_REFUSAL: usize = 23;
 /// How often each answer was given by both: 0 is done, n is refused n.
 pub type Answers = [u32; 1 + GREATEST_REFUSAL];
 
-/// The answers that the twin can give to calls that are no runs; to signed ones; to a tidying that moves nothing; what can stop a run; what can after
-/// its first element.
+/// The answers that the twin can give to calls that are no runs; to signed ones; to a tidying that moves nothing; to a load; what can stop a run; what can
+/// after its first element.
 const TWINS: [usize; 15] = [0, 1, 2, 4, 5, 6, 7, 8, 9, 10, 14, 19, 20, 22, 23];
 const SIGNED: [usize; 13] = [0, 1, 2, 4, 5, 6, 7, 8, 9, 10, 19, 20, 23];
 const UNMOVED: [usize; 3] = [0, 14, 20];
+const LOADS: [usize; 3] = [0, 20, 22];
 const STOPS: [usize; 13] = [0, 1, 2, 4, 5, 6, 7, 8, 9, 10, 19, 20, 23];
 const LATE_STOPS: [usize; 6] = [0, 7, 8, 9, 10, 23];
 /// Each of them must have been given so often at least.
@@ -25,6 +26,10 @@ pub struct Heard {
     /// Tidyings, which do so too: how many moved segments, and the others' answers.
     pub moved: u32,
     pub unmoved: Answers,
+    /// Loads.
+    pub loads: Answers,
+    /// Openings that may be far from their records: how many were in unsound tables, and how many in sound ones.
+    pub apart: [u32; 2],
     /// What stopped the runs, 0 for nothing; and of those that came to an element.
     pub runs: Answers,
     pub late: Answers,
@@ -51,6 +56,7 @@ impl Heard {
                 self.moved += u32::from(moved);
                 self.unmoved[refusal] += u32::from(!moved);
             }
+            Call::Load => self.loads[refusal] += 1,
             _ => {}
         }
         self.calls[refusal] += 1;
@@ -60,9 +66,12 @@ impl Heard {
         often(&TWINS, &self.calls);
         often(&SIGNED, &self.signed);
         often(&UNMOVED, &self.unmoved);
+        often(&LOADS, &self.loads);
         often(&STOPS, &self.runs);
         often(&LATE_STOPS, &self.late);
         assert!(self.below_zero >= OFTEN, "too seldom among the random calls: a number below zero is read");
+        let seldom = self.apart.iter().any(|&times| times < OFTEN);
+        assert!(!seldom, "too seldom apart from their records, in unsound and sound tables: {:?}", self.apart);
         assert!(self.moved >= OFTEN, "too seldom among the random calls: a tidying that moves segments");
     }
 
@@ -78,6 +87,9 @@ impl Heard {
             "tidyings among them: {} move segments; of the others done and refused: {:?}",
             self.moved, self.unmoved
         );
+        println!("loads among them, done and refused: {:?}", self.loads);
+        let [unsound, sound] = self.apart;
+        println!("openings apart from their records: {sound} in sound tables, {unsound} in unsound ones.");
         println!("{runs} random runs, {} elements: alike too, and as their single calls.", self.elements);
         println!("done and stopped, how often: {:?}, after an element: {:?}", self.runs, self.late);
     }

@@ -7,8 +7,11 @@ mod calls;
 mod chance;
 mod damage;
 mod decisions;
+mod far;
+mod form_1;
 mod growth;
 mod heard;
+mod histories;
 mod kinds;
 mod measure;
 mod numbers;
@@ -59,8 +62,12 @@ fn main() {
 }
 
 fn agree_first() {
-    agree::histories().print();
+    histories::all().print();
     tables::compact().iter().chain(&tables::scattered()).for_each(|(_, tables)| agree::soundness(tables));
-    agree::soundness(&tables::each_species());
+    let of_each_species =
+        [tables::each_species(tables::early), tables::each_species(tables::late), far::each_species_away()];
+    of_each_species.iter().for_each(|tables| agree::soundness(tables));
     println!("Soundness of the tables measured and of files of each species, with each one cell changed: alike.");
+    far::listed_again().iter().for_each(|tables| agree::unsoundness(tables));
+    println!("Tables that list segments twice, 256 of them or a multiple: unsound.");
 }

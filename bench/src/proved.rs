@@ -64,6 +64,7 @@ exports! {
     next_signed(Read<u32>, usize, Write, usize, u32, u32, u32) -> i64;
     prev_signed(Read<u32>, usize, Write, usize, u32, u32, u32) -> i64;
     value(Read<u32>, usize, Read<u32>, usize, u32, u32, u32) -> u64;
+    claim(Read<u32>, usize, Read<u32>, usize, u32, u32) -> u64;
     write_run(Write, usize, Write, usize, u32, u32, u32, Read<u32>, usize, Write) -> u64;
     fill_run(Read<u32>, usize, Write, usize, u32, u32, u32, Write, usize, Write) -> u64;
     measure_sound(Read<u32>, usize, usize) -> u32;
@@ -125,6 +126,7 @@ impl Build {
             Call::NextSigned((user, entry), pointer) => door!(mut next_signed, user, entry, pointer),
             Call::PrevSigned((user, entry), pointer) => door!(mut prev_signed, user, entry, pointer),
             Call::Value((user, entry), pointer) => door!(const value, user, entry, pointer),
+            Call::Claim((user, entry)) => door!(const claim, user, entry),
             Call::WriteRun((user, entry), pointer, ref list) => {
                 door!(both write_run, user, entry, pointer, list.as_ptr(), list.len(), place)
             }

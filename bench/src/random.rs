@@ -1,6 +1,7 @@
 //! Random numbers from a seed.
 
-const WILD: [u32; 9] = [6, 7, 8, 12, 63, 64, 1 << 24, (1 << 24) - 1, u32::MAX];
+/// Limits of the documents, those of form 1 among them, and their neighbours.
+const WILD: [u32; 10] = [6, 7, 8, 12, 63, 64, 1 << 24, (1 << 24) - 1, u32::MAX, u32::MAX - 1];
 
 pub struct Random(pub u64);
 

@@ -4,10 +4,12 @@ use crate::chance::LONGEST_RUN;
 use crate::random::Random;
 use crate::tables::{empty, file, open_new, reading, relist, short, Content, CELLS, ELEMENTS, SEGMENTS};
 use crate::twin::layout::{opening, opening_mut, record, PLACES};
-use crate::twin::{GREATEST_END, IMAGE, SEGMENT_CELLS, SIGNED_SPECIES};
+use crate::twin::{GREATEST_END, IMAGE, MOST_HELD, SEGMENT_CELLS, SIGNED_SPECIES};
 
 /// So few that a file or two hold nearly all of them.
 const FEW_SEGMENTS: u32 = 40;
+/// What the greatest end was before document 02's P6, of 24 bits.
+const END_OF_FORM_1: u32 = 16_777_215;
 
 pub fn lent(cells: usize, tables: Vec<u32>) -> Lent {
     Lent {
@@ -41,7 +43,7 @@ pub fn files_near_limits(place: u32) -> Content {
     let signed_or = |plain| if place / 4 % 2 == 1 { SIGNED_SPECIES } else { plain };
     match place % 4 {
         0 => Content { species: signed_or(4), begin: 128, end: 128 * 32, first },
-        1 => Content { species: signed_or(3), begin: 16_777_000, end: 16_777_214, first },
+        1 => Content { species: signed_or(3), begin: GREATEST_END - 215, end: GREATEST_END - 1, first },
         2 => Content { species: place % ELEMENTS.len() as u32, begin: 1, end: 2, first },
         _ => Content { species: 1, begin: 2049, end: 2049, first },
     }
@@ -95,13 +97,15 @@ pub fn one_file(random: &mut Random) -> (Lent, At) {
     (lent(64 * tables[0] as usize + random.below(64) as usize, tables), (entry / 4, entry % 4))
 }
 
-/// A file of no, a few or nearly all 32 segments, often near the end of its last one, sometimes near the end of all positions.
+/// A file of no, a few or nearly all 32 segments, often near the end of its last one, sometimes near the end of all positions or of those of form 1.
 fn any_content(random: &mut Random) -> Content {
     let species = random.below(ELEMENTS.len() as u32);
     let per_segment = ELEMENTS[species as usize];
-    let begin = match random.below(4) {
-        0 => 1,
-        1 => GREATEST_END - random.below(2 * per_segment),
+    let begin = match random.below(8) {
+        0..=1 => 1,
+        2..=3 => GREATEST_END - random.below(2 * per_segment),
+        4 => GREATEST_END - random.below(MOST_HELD * per_segment),
+        5 => END_OF_FORM_1 - random.below(2 * per_segment),
         _ => 1 + random.below(GREATEST_END),
     };
     let held = match random.below(4) {
@@ -109,10 +113,16 @@ fn any_content(random: &mut Random) -> Content {
         1 => 31 + random.below(2),
         _ => 1 + random.below(5),
     };
-    let full = ((begin - 1) / per_segment + held) * per_segment + 1;
     let missing = if random.one_in(2) { random.below(50) } else { random.below(per_segment) };
-    let end = full.saturating_sub(missing).clamp(begin, GREATEST_END);
-    Content { species, begin, end, first: 0 }
+    Content { species, begin, end: end_after(species, begin, held, missing), first: 0 }
+}
+
+/// The end of a file that holds so many segments, but for so many elements of the last; not beyond the positions.
+pub fn end_after(species: u32, begin: u32, held: u32, missing: u32) -> u32 {
+    let per_segment = ELEMENTS[species as usize];
+    let full = u64::from((begin - 1) / per_segment + held) * u64::from(per_segment) + 1;
+    let end = full.saturating_sub(missing.into()).clamp(begin.into(), GREATEST_END.into());
+    end as u32
 }
 
 fn read_record(tables: &mut [u32], entry: u32, content: Content) {
@@ -136,9 +146,9 @@ fn put_pointers(random: &mut Random, pointers: &mut [u32], content: Content) {
     for (place, pointer) in pointers.iter_mut().enumerate() {
         let value = match random.below(6) {
             0 => content.begin.saturating_sub(1 + random.below(3)),
-            1 => content.end + random.below(3),
+            1 => content.end.saturating_add(random.below(3)),
             _ => content.begin + random.below(content.end - content.begin + 1),
         };
-        *pointer = if place > 0 && random.one_in(3) { 0 } else { value.clamp(1, GREATEST_END) };
+        *pointer = if place > 0 && random.one_in(3) { 0 } else { value.max(1) };
     }
 }

@@ -1,8 +1,8 @@
 //! Tables to measure on and to begin histories from.
 use crate::calls::At;
 use crate::random::Random;
-use crate::twin::layout::{opening, OPENINGS};
-use crate::twin::{GREATEST_SPECIES, TABLES};
+use crate::twin::layout::{opening, opening_mut, OPENINGS};
+use crate::twin::{GREATEST_END, GREATEST_SPECIES, TABLES};
 
 pub const CELLS: usize = 65_536;
 pub const SEGMENTS: u32 = 1024;
@@ -21,14 +21,18 @@ pub struct Content {
 impl Content {
     /// How many segments the file holds.
     pub fn held(self) -> u32 {
-        let per_segment = ELEMENTS[self.species as usize];
         if self.begin == self.end {
             return 0;
         }
-        (self.end - 2) / per_segment + 1 - (self.begin - 1) / per_segment
+        (self.end - 2) / ELEMENTS[self.species as usize] + 1 - self.first_stretch()
     }
 
-    fn segments(self) -> impl Iterator<Item = u32> {
+    /// The stretch that the begin lies in.
+    pub fn first_stretch(self) -> u32 {
+        (self.begin - 1) / ELEMENTS[self.species as usize]
+    }
+
+    pub fn segments(self) -> impl Iterator<Item = u32> {
         self.first..self.first + self.held()
     }
 }
@@ -135,10 +139,11 @@ pub fn shuffled(records: usize, held: usize, number: impl Fn(u32) -> u32) -> Vec
     dealt(records, held, |place, stretch| number(order[held * place + stretch]))
 }
 
-/// Every entry reads a record of its user's.
-fn all_reading(mut tables: Vec<u32>) -> Vec<u32> {
+/// Every entry has a record of its user's open, with the work permit or not, and all as it is filed.
+fn all_open(permit: u32, mut tables: Vec<u32>) -> Vec<u32> {
     for entry in 0..32 {
         reading(&mut tables, entry, entry / 4 + 8 * (entry % 4));
+        opening_mut(&mut tables, entry)[opening::PERMIT] = permit;
     }
     tables
 }
@@ -148,7 +153,8 @@ pub fn compact() -> Vec<(&'static str, Vec<u32>)> {
     vec![
         ("empty tables", empty(SEGMENTS)),
         ("20 records, 320 segments listed", filled(20, short, 16)),
-        ("64 records, 1,024 segments listed, 32 openings", all_reading(filled(64, short, 16))),
+        ("64 records, 1,024 segments listed, 32 openings", all_open(0, filled(64, short, 16))),
+        ("64 records, 1,024 segments listed, 32 work openings", all_open(1, filled(64, short, 16))),
         ("64 records, 1,008 segments listed, no opening", {
             let mut tables = filled(63, short, 16);
             file(&mut tables, 63, short(63), 7, Content { species: 5, begin: 1, end: 1, first: 0 });
@@ -156,7 +162,7 @@ pub fn compact() -> Vec<(&'static str, Vec<u32>)> {
         }),
         ("64 records, 960 segments listed, no opening", filled(64, short, 15)),
         ("64 records, 960 segments listed, 8 names with 8 owners each", filled(64, shared, 15)),
-        ("64 names alike in ten symbols", all_reading(filled(64, alike, 16))),
+        ("64 names alike in ten symbols", all_open(0, filled(64, alike, 16))),
     ]
 }
 
@@ -171,14 +177,23 @@ pub fn scattered() -> Vec<(&'static str, Vec<u32>)> {
     ]
 }
 
-/// A file of each species, from the last position of a stretch to the first of the one after the next, which its owner reads.
-pub fn each_species() -> Vec<u32> {
+/// A file of each species, which its owner reads. Its begin and end are told from E, so that it holds three segments.
+pub fn each_species(ends: fn(u32) -> (u32, u32)) -> Vec<u32> {
     let mut tables = empty(SEGMENTS);
     for (place, per_segment) in ELEMENTS.into_iter().enumerate() {
-        let number = place as u32;
-        let content = Content { species: number, begin: per_segment, end: 2 * per_segment + 2, first: 3 * number };
-        file(&mut tables, place, short(place), number, content);
+        let (number, (begin, end)) = (place as u32, ends(per_segment));
+        file(&mut tables, place, short(place), number, Content { species: number, begin, end, first: 3 * number });
         reading(&mut tables, 4 * place, place);
     }
     tables
+}
+
+/// From the last position of a stretch to the first of the one after the next.
+pub fn early(per_segment: u32) -> (u32, u32) {
+    (per_segment, 2 * per_segment + 2)
+}
+
+/// Up to the end of positions.
+pub fn late(per_segment: u32) -> (u32, u32) {
+    (GREATEST_END - 2 * per_segment, GREATEST_END)
 }

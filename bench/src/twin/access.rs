@@ -2,7 +2,7 @@
 use super::layout::{self, opening, Opening};
 use super::numbers::Number;
 use super::openings::{self, drop_first, drop_last};
-use super::placing::{element, offset, segment, stretch};
+use super::placing::{self, element, offset, segment, stretch};
 use super::{gate, Answer, Refusal};
 
 /// The number at a position of the file.
@@ -12,10 +12,17 @@ fn delivered<N: Number>(store: &[u32], cells: &Opening, position: u32) -> N {
     N::of(element(segment(store, cells[opening::SEGMENTS][place as usize]), species, offset(species, position)))
 }
 
-/// The one inquiry here: each is the gate and a look.
+/// The inquiry that is measured: each is the gate and a look.
 pub fn value(store: &[u32], tables: &[u32], user: u32, entry: u32, pointer: u32) -> Answer {
     let at = gate::open_entry(store, tables, user, entry)?;
     openings::value(layout::opening(tables, at), pointer)
+}
+
+/// The inquiry that computes something.
+pub fn claim(store: &[u32], tables: &[u32], user: u32, entry: u32) -> Answer {
+    let at = gate::open_entry(store, tables, user, entry)?;
+    let cells = layout::opening(tables, at);
+    Ok(placing::claim(cells[opening::SPECIES], cells[opening::BEGIN], cells[opening::END]))
 }
 
 /// "Next: v < b is 6, v >= e is 7. Delivers position v, v grows. Through 0 the element leaves the file."

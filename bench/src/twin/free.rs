@@ -1,38 +1,20 @@
 //! "A segment is free if no catalogue record and no opening lists it".
 use super::layout::{self, opening, record};
-use super::placing::held;
-use super::soundness::MOST_SEGMENTS;
+use super::lists::{count, mark, of_opening, of_record, Marks, NONE_MARKED};
 use super::{gate, Answer};
 
 /// The held segment numbers of each record and opening of sound tables.
 fn lists(tables: &[u32]) -> impl Iterator<Item = &[u32]> {
-    let records = layout::records(tables).filter(|cells| cells[record::USED] == 1).map(|cells| {
-        let held = held(cells[record::SPECIES], cells[record::BEGIN], cells[record::END]);
-        &cells[record::SEGMENTS][..held as usize]
-    });
-    let openings = layout::openings(tables).filter(|cells| cells[opening::OPEN] == 1).map(|cells| {
-        let held = held(cells[opening::SPECIES], cells[opening::BEGIN], cells[opening::END]);
-        &cells[opening::SEGMENTS][..held as usize]
-    });
+    let records = layout::records(tables).filter(|cells| cells[record::USED] == 1).map(of_record);
+    let openings = layout::openings(tables).filter(|cells| cells[opening::OPEN] == 1).map(of_opening);
     records.chain(openings)
 }
 
-/// 1 for each segment that is listed.
-pub type Listed = [u8; MOST_SEGMENTS as usize];
-
-pub fn listed(tables: &[u32]) -> Listed {
-    let mut listed = [0; MOST_SEGMENTS as usize];
-    lists(tables).for_each(|list| {
-        for &segment in list {
-            listed[segment as usize] = 1;
-        }
-    });
+/// A mark for each segment that is listed.
+pub fn listed(tables: &[u32]) -> Marks {
+    let mut listed = NONE_MARKED;
+    lists(tables).for_each(|list| mark(&mut listed, list));
     listed
-}
-
-/// How many are listed.
-pub fn count(listed: &Listed) -> u32 {
-    listed.iter().map(|&listed| u32::from(listed)).sum()
 }
 
 pub fn free_count(tables: &[u32]) -> u32 {

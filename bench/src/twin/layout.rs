@@ -43,8 +43,9 @@ pub fn records(tables: &[u32]) -> impl Iterator<Item = &Record> {
     tables[RECORDS..OPENINGS].chunks_exact(record::CELLS).map(|cells| cells.try_into().unwrap())
 }
 
+/// None where the cells end before them.
 pub fn openings(tables: &[u32]) -> impl Iterator<Item = &Opening> {
-    tables[OPENINGS..TABLES].chunks_exact(opening::CELLS).map(|cells| cells.try_into().unwrap())
+    tables[OPENINGS..].chunks_exact(opening::CELLS).map(|cells| cells.try_into().unwrap())
 }
 
 pub fn records_mut(tables: &mut [u32]) -> impl Iterator<Item = &mut Record> {

@@ -1,5 +1,6 @@
 //! Two ways to make a run.
-use super::free::{listed, lowest_free, Listed};
+use super::free::{listed, lowest_free};
+use super::lists::Marks;
 use super::packing::{put_elements, take_elements};
 use super::placing::{element, put_element, Segment};
 
@@ -16,7 +17,7 @@ pub trait Means: Default {
 #[derive(Default)]
 pub struct Fastest {
     /// And how many segments from the first on are known to be listed.
-    marks: Option<(Listed, usize)>,
+    marks: Option<(Marks, usize)>,
 }
 
 impl Means for Fastest {

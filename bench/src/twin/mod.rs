@@ -1,10 +1,13 @@
-//! What the measured calls cost in plain Rust, with nothing proved: soundness, free segments, write, next, prev, runs of them, one inquiry, save, load and
+//! What the measured calls cost in plain Rust, with nothing proved: soundness, free segments, write, next, prev, runs of them, two inquiries, save, load and
 //! tidying, by the rules of documents 01 and 02 over the same cells.
 mod access;
+mod bits;
+mod distinct;
 mod free;
 mod gate;
 mod image;
 pub mod layout;
+mod lists;
 mod means;
 mod numbers;
 mod openings;
@@ -21,7 +24,8 @@ pub use image::IMAGE;
 pub use layout::TABLES;
 pub use perform::{perform, perform_singly};
 pub use placing::{
-    greatest, AS_WIDE_AS_SIGNED, GREATEST_END, GREATEST_SPECIES, SEGMENT_CELLS, SIGNED_SPECIES, WHOLE_SPECIES,
+    greatest, AS_WIDE_AS_SIGNED, GREATEST_END, GREATEST_SPECIES, MOST_HELD, SEGMENT_CELLS, SIGNED_SPECIES,
+    WHOLE_SPECIES,
 };
 pub use soundness::sound;
 

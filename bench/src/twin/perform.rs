@@ -32,6 +32,7 @@ fn by<M: Means>(call: &Call, lent: &mut Lent) -> i64 {
             return packed(access::prev::<i32>(store, tables, user, entry, pointer));
         }
         Call::Value((user, entry), pointer) => access::value(store, tables, user, entry, pointer),
+        Call::Claim((user, entry)) => access::claim(store, tables, user, entry),
         Call::WriteRun((user, entry), pointer, ref list) => {
             return (list.len() - stopped(write_run::<M>(store, tables, user, entry, pointer, list), place)) as i64;
         }

@@ -1,6 +1,7 @@
 //! Where an element lies: species, positions, stretches and cells.
 
-pub const GREATEST_END: u32 = 16_777_215;
+/// Document 02, P6: "Raise the begin and end limit to 4,294,967,295." No cell holds a greater number, so no sum may go beyond it.
+pub const GREATEST_END: u32 = u32::MAX;
 pub const GREATEST_SPECIES: u32 = 6;
 /// "species 5, where an element is a cell"
 pub const WHOLE_SPECIES: u32 = 5;
@@ -52,6 +53,15 @@ pub fn held(species: u32, begin: u32, end: u32) -> u32 {
         return 0;
     }
     stretch(species, end - 1) - stretch(species, begin) + 1
+}
+
+/// "The claim is the number of positions from b to the end of the last held stretch, 0 for an empty file." That end may lie beyond the greatest number of a
+/// cell, so the claim is told from the held stretches, which have 65,536 positions at most.
+pub fn claim(species: u32, begin: u32, end: u32) -> u32 {
+    if begin == end {
+        return 0;
+    }
+    (held(species, begin, end) << elements_log(species)) - offset(species, begin)
 }
 
 /// The cells of a segment in the store.

@@ -1,14 +1,20 @@
 //! "Sound tables": document 01's sentence, test by test.
+use super::distinct::distinct;
 use super::layout::{self, opening, record, Opening, Record, PLACES, TABLES};
-use super::placing::{held, stretch, GREATEST_END, GREATEST_SPECIES, MOST_HELD, SEGMENT_CELLS};
+use super::placing::{held, GREATEST_SPECIES, MOST_HELD, SEGMENT_CELLS};
 
 pub const MOST_SEGMENTS: u32 = 1024;
 
 /// Whether the cells are sound tables beside a store of so many cells.
 #[inline(never)]
 pub fn sound(tables: &[u32], store_cells: usize) -> bool {
-    tables.len() == TABLES
-        && (1..=MOST_SEGMENTS).contains(&tables[0])
+    tables.len() == TABLES && cells_sound(tables, store_cells)
+}
+
+/// The same of cells that are as long as tables, or end where the openings begin, so that nothing is open.
+#[inline(always)]
+pub fn cells_sound(tables: &[u32], store_cells: usize) -> bool {
+    (1..=MOST_SEGMENTS).contains(&tables[0])
         && SEGMENT_CELLS * tables[0] as usize <= store_cells
         && layout::records(tables).all(|cells| record_sound(cells, tables[0]))
         && names_sound(tables)
@@ -21,12 +27,9 @@ fn zero(cells: &[u32]) -> bool {
     cells.iter().fold(0, |bits, &cell| bits | cell) == 0
 }
 
+/// An end above the greatest is none that a cell can hold.
 fn extent_sound(species: u32, begin: u32, end: u32) -> bool {
-    species <= GREATEST_SPECIES
-        && 1 <= begin
-        && begin <= end
-        && end <= GREATEST_END
-        && held(species, begin, end) <= MOST_HELD
+    species <= GREATEST_SPECIES && 1 <= begin && begin <= end && held(species, begin, end) <= MOST_HELD
 }
 
 /// "names not empty, symbols 0 to 35 and then only 63"
@@ -78,6 +81,7 @@ fn names_sound(tables: &[u32]) -> bool {
     true
 }
 
+/// Pointers stand at most at the greatest end likewise, and an own one that is not there is 0.
 fn opening_sound(tables: &[u32], entry: usize, cells: &Opening) -> bool {
     if cells[opening::OPEN] == 0 {
         return zero(cells);
@@ -89,7 +93,6 @@ fn opening_sound(tables: &[u32], entry: usize, cells: &Opening) -> bool {
         && (name_sound(name) || name.iter().all(|&symbol| symbol == 63))
         && extent_sound(species, begin, end)
         && 1 <= cells[opening::WORK]
-        && cells[opening::WORK_AND_OWN].iter().all(|&value| value <= GREATEST_END)
         && list_sound(&cells[opening::SEGMENTS], held(species, begin, end), tables[0])
         && link_sound(tables, entry, cells)
 }
@@ -122,38 +125,4 @@ fn shows(cells: &Opening, filed: &Record) -> bool {
         && cells[opening::BEGIN] == filed[record::BEGIN]
         && cells[opening::END] == filed[record::END]
         && cells[opening::SEGMENTS] == filed[record::SEGMENTS]
-}
-
-/// "segments in all lists are distinct, but for a record and its openings at one stretch": a segment's mark says whose
-/// it is (its record's place, or 64 and the entry) and at which stretch, which is below 2^18.
-fn distinct(tables: &[u32]) -> bool {
-    let mut marks = [0; MOST_SEGMENTS as usize];
-    let records = layout::records(tables).enumerate().filter(|(_, cells)| cells[record::USED] == 1);
-    let openings = layout::openings(tables).enumerate().filter(|(_, cells)| cells[opening::OPEN] == 1);
-    for (place, cells) in records {
-        let (species, begin, end) = (cells[record::SPECIES], cells[record::BEGIN], cells[record::END]);
-        let first = 1 + ((place as u32) << 18) + stretch(species, begin);
-        if !mark(&mut marks, &cells[record::SEGMENTS][..held(species, begin, end) as usize], first) {
-            return false;
-        }
-    }
-    for (entry, cells) in openings {
-        let (species, begin, end) = (cells[opening::SPECIES], cells[opening::BEGIN], cells[opening::END]);
-        let family = if cells[opening::PLACE] == 0 { 64 + entry as u32 } else { cells[opening::PLACE] - 1 };
-        let first = 1 + (family << 18) + stretch(species, begin);
-        if !mark(&mut marks, &cells[opening::SEGMENTS][..held(species, begin, end) as usize], first) {
-            return false;
-        }
-    }
-    true
-}
-
-/// Marks the segments of a list by rising stretch; false where one has another mark.
-fn mark(marks: &mut [u32; MOST_SEGMENTS as usize], list: &[u32], first: u32) -> bool {
-    (first..).zip(list).all(|(given, &segment)| {
-        let mark = &mut marks[segment as usize];
-        let sound = *mark == 0 || *mark == given;
-        *mark = given;
-        sound
-    })
 }

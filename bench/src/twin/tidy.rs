@@ -1,6 +1,7 @@
 //! Document 02, P13: tidying. By marks: those that are to move all lie at H or above, and where they go all lies below it.
-use super::free::{count, listed};
+use super::free::listed;
 use super::layout::{self, record};
+use super::lists::count;
 use super::placing::{held, segment, segment_mut, SEGMENT_CELLS};
 use super::soundness::MOST_SEGMENTS;
 use super::{gate, Answer};

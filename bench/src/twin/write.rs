@@ -1,6 +1,7 @@
 //! Write.
 use super::free::lowest_free;
-use super::layout::{self, opening, record, Opening};
+use super::layout::{self, opening, Opening};
+use super::lists::of_record;
 use super::numbers::Number;
 use super::openings::{drop_first, holds};
 use super::placing::{held, offset, put_element, segment_mut, stretch, GREATEST_END, MOST_HELD, SEGMENT_CELLS};
@@ -88,7 +89,5 @@ fn shared(tables: &[u32], cells: &Opening, segment: u32) -> bool {
     if cells[opening::PLACE] == 0 {
         return false;
     }
-    let filed = layout::record(tables, cells[opening::PLACE] as usize - 1);
-    let held = held(filed[record::SPECIES], filed[record::BEGIN], filed[record::END]);
-    filed[record::SEGMENTS][..held as usize].contains(&segment)
+    of_record(layout::record(tables, cells[opening::PLACE] as usize - 1)).contains(&segment)
 }
