@@ -69,12 +69,12 @@ fn put_record(values: &[u32], out: &mut [u32])
     pack_record(values, out);
 }
 
-// The 50 cells of the record that 15 cells of the image say.
-fn unpack_record(cells: &[u32], out: &mut [u32])
-    requires { ⌜ (length (now cells) ≡ served .cells) × (length (now out) ≡ recordLength) ⌝ }
+// The 50 cells of the record that 15 cells of the image say, by the widths of its fields.
+fn unpack_record(cells: &[u32], fields: &[u32], out: &mut [u32])
+    requires { ⌜ (length (now cells) ≡ served .cells) × (length (now out) ≡ recordLength) × (now fields ≡ served .widths) ⌝ }
     ensures { λ _. ⌜ now (out .exit) ≡ unpackedRecord served (now (cells .entry)) ⌝ }
 {
-    packing_rows::unpack(cells, &widths::ROW[0..RECORD_LENGTH], out);
+    packing_rows::unpack(cells, fields, out);
 }
 
 // Whether a record's cells of the image are all zero: where it is used the first one is not, and no other is looked at.
@@ -89,14 +89,14 @@ fn is_blank(cells: &[u32]) -> bool
 }
 
 // The same where the 50 cells are zero: they stay so for cells that are all zero.
-fn take_record(cells: &[u32], out: &mut [u32])
-    requires { ⌜ (length (now cells) ≡ served .cells) × (now out ≡ replicate recordLength 0) ⌝ }
+fn take_record(cells: &[u32], fields: &[u32], out: &mut [u32])
+    requires { ⌜ (length (now cells) ≡ served .cells) × (now out ≡ replicate recordLength 0) × (now fields ≡ served .widths) ⌝ }
     ensures { λ _. ⌜ now (out .exit) ≡ unpackedRecord served (now (cells .entry)) ⌝ }
 {
     if is_blank(cells) {
         return;
     }
-    unpack_record(cells, out);
+    unpack_record(cells, fields, out);
 }
 
 // "Saving writes the records only, whatever is open."
@@ -114,15 +114,18 @@ fn put_records(tables: &[u32], image: &mut [u32])
     }
 }
 
-// The records of the image into tables that are zero behind their first cell.
+// The records of the image into tables that are zero behind their first cell. The widths are laid out once for all records.
 fn take_records(image: &[u32], tables: &mut [u32])
     requires { ⌜ (length (now image) ≡ imageLength served) × (length (now tables) ≡ tablesLength) × (drop 1 (now tables) ≡ replicate (tablesLength - 1) 0) ⌝ }
     ensures { λ _. ⌜ now (tables .exit) ≡ take 1 (now (tables .entry)) ++ (joined (tab places (recordFrom served (now (image .entry)))) ++ drop openingsStart (now (tables .entry))) ⌝ }
 {
+    let widths = widths::ROW;
+    let fields = &widths[0..RECORD_LENGTH];
     let mut p = 0;
     while p < PLACES {
         take_record(
             &image[1 + RECORD_CELLS * p..SECOND_IN_IMAGE + RECORD_CELLS * p],
+            fields,
             &mut tables[RECORDS_START + RECORD_LENGTH * p..SECOND_RECORD + RECORD_LENGTH * p],
         );
         p += 1;

@@ -16,13 +16,13 @@ is-blank-requires c κs = search needs
 returns : tie.Need-returns
 unfolding unpackedRecord recordWidths
 returns c =
-    let s = c .before .before .before .before in
+    let s = c .before .before .before .before .before in
     s .pre .1 ∙ sym (ap (take recordLength) (unpack-zeros (rowWidths served) (now (s .args .cells)) (sym (c .before .is-blank .ensures) ∙ c .if1 .taken)))
 
 unpack-record-requires : tie.Need-unpack-record-requires
 unpack-record-requires c κs =
-    let s = c .before .before .before .before .before in
-    (s .pre .0, ap length (s .pre .1) ∙ length-replicate {A = ℕ} 50 0)
+    let s = c .before .before .before .before .before .before in
+    (s .pre .0, ap length (s .pre .1) ∙ length-replicate {A = ℕ} recordLength 0, s .pre .2)
 
 same-length : tie.Need-same-length
 same-length c = search needs
