@@ -39,6 +39,14 @@ module _ (s : ℕ) (h : s ≤ greatestSpecies) where
   unfolding slotOf stretchOf
   place-fits b x n l q = omega (arith, div-le-self (x - 1) (elementsOf s))
 
+  -- what is left of a stretch
+  pub left-code : (x E : ℕ) → E ≡ elementsOf s → ((x - 1) % E ≤ E) × (E - (x - 1) % E ≡ elementsOf s - offsetOf s x)
+  unfolding offsetOf
+  left-code x E e =
+      let many = elements-many s h in
+      let off : (x - 1) % E < E = mod-lt (x - 1) (omega arith) in
+      (omega arith, λ i. e i - (x - 1) % e i)
+
   -- a file that holds something is not empty
   pub claim-empty : (b e n : ℕ) → b ≤ e → n ≡ heldOf s b e → n ≡ 0 → 0 ≡ claimOf s b e
   claim-empty b e n l q z = ⊎-elim (λ m. claim-none b e (omega arith)) (λ m. absurd (let y : ⊥ = omega (arith, file.held-some s b e m) in y)) (le-or-lt e b)

@@ -16,6 +16,7 @@ ghost use Rattle.placing.specs.Placing.{
 };
 
 pub mod order; // positions compared, and moved by one
+pub mod stretch; // a position within its stretch
 pub mod whole; // species 5, where an element is a cell
 
 // "Users 0 to 7. Each user has entries 0 to 3", a row of them: 32 in all.

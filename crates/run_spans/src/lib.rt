@@ -21,8 +21,7 @@ pub fn ahead(species: u32, first: Position, beyond: Position) -> u32
     requires { ⌜ (species ≤ greatestSpecies) × (1 ≤ first .0) × (first .0 < beyond .0) × (beyond .0 ≤ greatestEnd) ⌝ }
     ensures { λ r. ⌜ Ahead species (first .0) (beyond .0) r ⌝ }
 {
-    let next = first.after();
-    let here = placing::claim(species, first, next);
+    let here = first.left_in_stretch(species);
     let before = beyond.number() - first.number();
     if here < before {
         return here;

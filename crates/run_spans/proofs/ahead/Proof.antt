@@ -1,14 +1,11 @@
--- `run_spans::ahead` meets its contract: the claim of the one position `first`, or fewer. Assumes nothing.
+-- `run_spans::ahead` meets its contract: what is left of the stretch, or fewer. Assumes nothing.
 use borrow.Author.Needs.{needs}
 use Rattle.run_spans.proofs.Laws.{spans}
 use Rattle.run_spans.proofs.ahead.Statement.{statement}
 use Rattle.run_spans.proofs.ahead.Tie as tie
 
-after-requires : tie.Need-after-requires
-after-requires c κs = search needs
-
-claim-requires : tie.Need-claim-requires
-claim-requires c κs = search (spans, needs)
+left-in-stretch-requires : tie.Need-left-in-stretch-requires
+left-in-stretch-requires c κs = search needs
 
 number-requires : tie.Need-number-requires
 number-requires c κs = search needs
@@ -29,8 +26,7 @@ pub ahead-spec : {M : Type 1} → statement M
 ahead-spec =
     tie.close
     (tie.spec
-    after-requires
-    claim-requires
+    left-in-stretch-requires
     number-requires
     number-requires-2
     sub-before
