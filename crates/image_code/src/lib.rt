@@ -69,14 +69,6 @@ fn put_record(values: &[u32], out: &mut [u32])
     pack_record(values, out);
 }
 
-// The 50 cells of the record that 15 cells of the image say, by the widths of its fields.
-fn unpack_record(cells: &[u32], fields: &[u32], out: &mut [u32])
-    requires { ⌜ (length (now cells) ≡ served .cells) × (length (now out) ≡ recordLength) × (now fields ≡ served .widths) ⌝ }
-    ensures { λ _. ⌜ now (out .exit) ≡ unpackedRecord served (now (cells .entry)) ⌝ }
-{
-    packing_rows::unpack(cells, fields, out);
-}
-
 // Whether a record's cells of the image are all zero: where it is used the first one is not, and no other is looked at.
 fn is_blank(cells: &[u32]) -> bool
     requires { ⌜ length (now cells) ≡ served .cells ⌝ }
@@ -86,6 +78,14 @@ fn is_blank(cells: &[u32]) -> bool
         return false;
     }
     combine::all_zero(cells)
+}
+
+// The 50 cells of the record that 15 cells of the image say, by the widths of its fields.
+fn unpack_record(cells: &[u32], fields: &[u32], out: &mut [u32])
+    requires { ⌜ (length (now cells) ≡ served .cells) × (length (now out) ≡ recordLength) × (now fields ≡ served .widths) ⌝ }
+    ensures { λ _. ⌜ now (out .exit) ≡ unpackedRecord served (now (cells .entry)) ⌝ }
+{
+    packing_rows::unpack(cells, fields, out);
 }
 
 // The same where the 50 cells are zero: they stay so for cells that are all zero.

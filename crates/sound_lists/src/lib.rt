@@ -8,6 +8,7 @@ use placing::OPENINGS_START;
 use placing::PLACES;
 use placing::RECORD_LENGTH;
 use placing::RECORDS_START;
+use placing::Segment;
 use tables::layout;
 ghost use mathlib.Core.Path.{_≡_};
 ghost use mathlib.Core.Bool.{true};
@@ -51,7 +52,7 @@ fn mark_changed(tables: &[u32], row: Row, filed: Row, marks: &mut [u8; MARKS]) -
     let mut set = 0;
     let mut k = 0;
     while k < row.held {
-        let segment = tables[start + k];
+        let segment = Segment::of(tables[start + k]);
         let shared = rows::has_at(tables, filed, row.first + k as u32, segment);
         set += marks::mark_unshared(segment, shared, marks);
         k += 1;

@@ -1,5 +1,6 @@
 // A mark for each segment: set without a test, and counted.
 use placing::MOST_SEGMENTS;
+use placing::Segment;
 ghost use mathlib.Core.Path.{_≡_};
 ghost use mathlib.Core.Bool.{true, not};
 ghost use Prim.Native.Nat.{ℕ, _+_, _<_, _≤_};
@@ -30,14 +31,15 @@ pub fn mark_row(row: &[u32], marks: &mut [u8; MARKS])
 }
 
 // Marks a segment that is not shared; how many marks were set.
-pub fn mark_unshared(segment: u32, shared: bool, marks: &mut [u8; MARKS]) -> u32
-    requires { ⌜ segment < mostSegments ⌝ }
-    ensures { λ r. ⌜ Marked (λ k. not shared) (λ k. segment) (now (marks .entry)) 1 (now (marks .exit)) r ⌝ }
+pub fn mark_unshared(segment: Segment, shared: bool, marks: &mut [u8; MARKS]) -> u32
+    requires { ⌜ segment .0 < mostSegments ⌝ }
+    ensures { λ r. ⌜ Marked (λ k. not shared) (λ k. segment .0) (now (marks .entry)) 1 (now (marks .exit)) r ⌝ }
 {
     if shared {
         return 0;
     }
-    marks[segment as usize] = 1;
+    let number = segment.number() as usize;
+    marks[number] = 1;
     1
 }
 

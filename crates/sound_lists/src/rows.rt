@@ -4,6 +4,7 @@ use placing::OPENINGS_START;
 use placing::Position;
 use placing::RECORD_LENGTH;
 use placing::RECORDS_START;
+use placing::Segment;
 use tables::layout;
 ghost use mathlib.Core.Path.{_≡_};
 ghost use mathlib.Core.Logic.{_≢_};
@@ -67,9 +68,9 @@ pub fn opening_row(tables: &[u32], entry: usize) -> Row
 }
 
 // Whether the row has the segment at the stretch.
-pub fn has_at(tables: &[u32], row: Row, stretch: u32, segment: u32) -> bool
+pub fn has_at(tables: &[u32], row: Row, stretch: u32, segment: Segment) -> bool
     requires { ⌜ RowIn (now tables) (row .start) (row .held) (row .first) ⌝ }
-    ensures { λ r. ⌜ r ≡ hasAt (cellFrom (now (tables .entry)) (row .start)) (row .held) (row .first) stretch segment ⌝ }
+    ensures { λ r. ⌜ r ≡ hasAt (cellFrom (now (tables .entry)) (row .start)) (row .held) (row .first) stretch (segment .0) ⌝ }
 {
     let start = row.start;
     if stretch < row.first {
@@ -79,5 +80,5 @@ pub fn has_at(tables: &[u32], row: Row, stretch: u32, segment: u32) -> bool
     if row.held <= place {
         return false;
     }
-    tables[start + place] == segment
+    tables[start + place] == segment.number()
 }

@@ -1,12 +1,14 @@
 -- `sound_lists::mark_changed` meets its contract: the changed ones of the first `k` segments are marked. Assumes nothing.
-use Prim.Native.Nat.{_-_, _≤_}
-use mathlib.Core.Path.{refl, ap}
+use Prim.Native.Nat.{_+_, _-_, _≤_}
+use mathlib.Core.Path.{ap, _∙_}
 use mathlib.Core.Bool.{not}
+use denote.Ref.{now}
 use native.Mathlib.Omega.{arith}
 use borrow.Author.Needs.{needs}
+use Rattle.placing.specs.declared.Segment.{Segment}
 use Rattle.sound_lists.specs.Marks.{Marked}
 use Rattle.sound_lists.specs.Rows.{cellFrom}
-use Rattle.sound_lists.specs.Shared.{changed}
+use Rattle.sound_lists.specs.Shared.{hasAt, changed}
 use Rattle.sound_lists.proofs.Marking.{marked-none, marked-more, marked-end, few-one}
 use Rattle.sound_lists.proofs.mark_changed.Statement.{statement}
 use Rattle.sound_lists.proofs.mark_changed.Tie as tie
@@ -22,14 +24,17 @@ abbrev μ-loop : tie.MeasureT-loop
 loop-holds : tie.Need-loop-holds Inv-loop μ-loop
 loop-holds c = (omega arith, omega arith, marked-none _ _ _)
 
-add-segment : tie.Need-add-segment Inv-loop μ-loop
-add-segment c = search needs
+add-of : tie.Need-add-of Inv-loop μ-loop
+add-of c = search needs
 
-mul-segment : tie.Need-mul-segment Inv-loop μ-loop
-mul-segment c = search needs
+mul-of : tie.Need-mul-of Inv-loop μ-loop
+mul-of c = search needs
 
-shared-slice-read-segment : tie.Need-shared-slice-read-segment Inv-loop μ-loop
-shared-slice-read-segment c = search needs
+shared-slice-read-of : tie.Need-shared-slice-read-of Inv-loop μ-loop
+shared-slice-read-of c = search needs
+
+of-requires : tie.Need-of-requires Inv-loop μ-loop
+of-requires c κs = search needs
 
 cast-has-at : tie.Need-cast-has-at Inv-loop μ-loop
 cast-has-at c = search needs
@@ -41,7 +46,11 @@ has-at-requires : tie.Need-has-at-requires Inv-loop μ-loop
 has-at-requires c κs = search needs
 
 mark-unshared-requires : tie.Need-mark-unshared-requires Inv-loop μ-loop
-mark-unshared-requires c κs = c .before .before .before .before .before .before .before .before .pre .0 .low (c .before .before .before .before .before .before .loop .k) (omega arith)
+mark-unshared-requires c κs =
+    let f = c .before .before .before in
+    let l = f .before .before .before .before .loop in
+    let s = f .before .before .before .before .before .before in
+    omega (arith, s .pre .0 .low (l .k) (omega arith), ap (λ (g : Segment). g .0) (f .of .ensures))
 
 add-set : tie.Need-add-set Inv-loop μ-loop
 add-set c = omega (arith, few-one _ _ _ _ _ (c .mark-unshared .ensures))
@@ -54,9 +63,14 @@ loop-less c = search needs
 
 loop-again : tie.Need-loop-again Inv-loop μ-loop
 loop-again c =
-    let l = c .before .before .before .before .before .before .before .loop in
-    let s = c .before .before .before .before .before .before .before .before .before in
-    (omega arith, omega (arith, few-one _ _ _ _ _ (c .mark-unshared .ensures)), marked-more _ _ _ (l .k) (l .marks) _ (l .set) _ _ _ (l .inv .2) (c .mark-unshared .ensures) (ap not (c .before .before .has-at .ensures)) refl)
+    let f = c .before .before .before .before in
+    let l = f .before .before .before .before .loop in
+    let s = f .before .before .before .before .before .before in
+    let row = s .args .row in
+    let filed = s .args .filed in
+    let same = ap (λ (g : Segment). g .0) (f .of .ensures) in
+    let shared = c .before .before .has-at .ensures ∙ ap (hasAt (cellFrom (now (s .args .tables)) (filed .start)) (filed .held) (filed .first) (row .first + l .k)) same in
+    (omega arith, omega (arith, few-one _ _ _ _ _ (c .mark-unshared .ensures)), marked-more _ _ _ (l .k) (l .marks) _ (l .set) _ _ _ (l .inv .2) (c .mark-unshared .ensures) (ap not shared) same)
 
 returns : tie.Need-returns Inv-loop μ-loop
 returns c = marked-end _ _ _ _ (c .before .before .loop .k) _ _ (omega arith) (c .before .before .loop .inv .2)
@@ -68,9 +82,10 @@ mark-changed-spec =
     Inv-loop
     μ-loop
     loop-holds
-    add-segment
-    mul-segment
-    shared-slice-read-segment
+    add-of
+    mul-of
+    shared-slice-read-of
+    of-requires
     cast-has-at
     add-has-at
     has-at-requires

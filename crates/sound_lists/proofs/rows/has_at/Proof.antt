@@ -1,5 +1,7 @@
 -- `sound_lists::rows::has_at` meets its contract. Assumes nothing.
+use mathlib.Core.Path.{ap, _∙_}
 use native.Mathlib.Omega.{arith}
+use lib.Dec.{eqb}
 use Rattle.sound_lists.proofs.Sharing.{has-before, has-beyond, has-within}
 use borrow.Author.Needs.{needs}
 use Rattle.sound_lists.proofs.rows.has_at.Statement.{statement}
@@ -23,8 +25,11 @@ mul-result c = search needs
 shared-slice-read-result : tie.Need-shared-slice-read-result
 shared-slice-read-result c = search needs
 
+number-requires : tie.Need-number-requires
+number-requires c κs = search needs
+
 returns-3 : tie.Need-returns-3
-returns-3 c = has-within _ _ _ _ _ (omega arith) (omega arith)
+returns-3 c = ap (eqb _) (c .number .ensures) ∙ has-within _ _ _ _ _ (omega arith) (omega arith)
 
 pub has-at-spec : {M : Type 1} → statement M
 has-at-spec =
@@ -36,4 +41,5 @@ has-at-spec =
     add-result
     mul-result
     shared-slice-read-result
+    number-requires
     returns-3)
