@@ -1,35 +1,21 @@
 // The operator's load.
 use answers::Answer;
 use answers::Refusal;
-use image::FORM;
-use image::IMAGE_LENGTH;
+use image::Form;
 use placing::LEAST_STORE;
 use placing::TABLES_LENGTH;
 ghost use mathlib.Core.Path.{_≡_};
 ghost use Prim.Native.Nat.{_≤_};
 ghost use lib.ListN.{length, replicate};
 ghost use Rattle.placing.specs.Sizes.{leastStore, tablesLength};
-ghost use Rattle.image.specs.Image.{served, imageLength};
 ghost use Rattle.cells.specs.Outcomes.{outcome, loadOut};
 
 // The image is decoded beside the tables and judged there: no cell of the tables changes before the verdict.
 fn judged(store: &[u32], tables: &mut [u32], image: &[u32], beside: &mut [u32]) -> Answer
-    requires { ⌜ (length (now tables) ≡ tablesLength) × (leastStore ≤ length (now store)) ⌝ }
-    requires { ⌜ (length (now image) ≡ imageLength served) × (now beside ≡ replicate tablesLength 0) ⌝ }
+    requires { ⌜ (length (now tables) ≡ tablesLength) × (leastStore ≤ length (now store)) × (now beside ≡ replicate tablesLength 0) ⌝ }
     ensures { λ r. ⌜ outcome r (now (store .entry)) (now (tables .exit)) ≡ loadOut (now (store .entry)) (now (tables .entry)) (now (image .entry)) ⌝ }
 {
-    let head = image_code::take_head(&image[0..1]);
-    if head[0] != FORM {
-        return Answer::Refused(Refusal::Image);
-    }
-    if head[2] != 0 {
-        return Answer::Refused(Refusal::Image);
-    }
-    if !image_code::spares_zero(image) {
-        return Answer::Refused(Refusal::Image);
-    }
-    image_code::take_image(image, beside);
-    if !sound::sound(beside, store.len()) {
+    if !image_sound::is_sound(Form::Two, image, store.len(), beside) {
         return Answer::Refused(Refusal::Image);
     }
     combine::copy_cells(beside, tables);
@@ -45,9 +31,6 @@ pub fn load(store: &[u32], tables: &mut [u32], image: &[u32]) -> Answer
     }
     if store.len() < LEAST_STORE {
         return Answer::Refused(Refusal::Tables);
-    }
-    if image.len() != IMAGE_LENGTH {
-        return Answer::Refused(Refusal::Image);
     }
     let mut beside = [0u32; TABLES_LENGTH];
     judged(store, tables, image, &mut beside)

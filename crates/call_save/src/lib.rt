@@ -1,6 +1,7 @@
 // The operator's save.
 use answers::Answer;
 use answers::Refusal;
+use image::Form;
 use image::IMAGE_LENGTH;
 ghost use mathlib.Core.Path.{_≡_};
 ghost use Rattle.cells.specs.Outcomes.{saveOut};
@@ -16,6 +17,6 @@ pub fn save(store: &[u32], tables: &[u32], image: &mut [u32]) -> Answer
     if image.len() != IMAGE_LENGTH {
         return Answer::Refused(Refusal::Image);
     }
-    image_code::put_image(tables, image);
+    image_code::put_image(Form::Two, tables, image);
     Answer::Done(0)
 }

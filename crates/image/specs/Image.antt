@@ -8,18 +8,19 @@ use Rattle.combine.specs.Below.{allBelow}
 use Rattle.combine.specs.Rows.{allOf}
 use Rattle.combine.specs.Lists.{tab, part, joined}
 use Rattle.packing.specs.Packing.{packed, unpacked, rowOf, cellsOf}
-use Rattle.placing.specs.Sizes.{Cells, places, mostHeld, nameSymbols, recordLength}
+use Rattle.placing.specs.Sizes.{Cells, places, mostHeld, greatestEnd, nameSymbols, recordLength}
 use Rattle.tables.specs.Layout.{recordBase, segmentsIn, noneOpen}
 use Rattle.tables.specs.Sound.{soundb}
 
 -- ---- forms of image
 
--- the number in cell 0, the widths of a record's fields, those of the zeros at its end, and its cells
+-- the number in cell 0, the widths of a record's fields, those of the zeros at its end, its cells, and the greatest begin and end that it can hold
 pub record Form : Type 0 where
   pub number : ℕ
   pub widths : List ℕ
   pub spare : List ℕ
   pub cells : ℕ
+  pub greatest : ℕ
 
 -- "Then 64 records of 448 bits: used 1, name 12 x 6, owner 3, private 1, species 3, begin 24, end 24, then 32 segment numbers of 10 bits by
 -- rising stretch.": with begin and end of so many bits
@@ -27,12 +28,12 @@ unfoldable pub recordWidths : (ends : ℕ) → List ℕ
 recordWidths w = 1 ∷ (replicate nameSymbols 6 ++ (3 ∷ 1 ∷ 3 ∷ w ∷ w ∷ replicate mostHeld 10))
 
 abbrev pub form1 : Form
-form1 = record { number = 1; widths = recordWidths 24; spare = []; cells = 14 }
+form1 = record { number = 1; widths = recordWidths 24; spare = []; cells = 14; greatest = 16777215 }
 
 -- document 02, P6: "Image form 2 has begin and end of 32 bits each and 16 zero bits at a record's end: 480 bits, 961 cells in all, form number 2
 -- in cell 0."
 abbrev pub form2 : Form
-form2 = record { number = 2; widths = recordWidths 32; spare = 16 ∷ []; cells = 15 }
+form2 = record { number = 2; widths = recordWidths 32; spare = 16 ∷ []; cells = 15; greatest = greatestEnd }
 
 -- "Save writes form 2. Load takes a 961-cell form 2 image only"
 abbrev pub served : Form

@@ -9,14 +9,14 @@ use Rattle.combine.specs.Lists.{joined, tab, part}
 use Rattle.packing.specs.Packing.{unpacked, rowOf}
 use Rattle.placing.specs.Sizes.{places, openingsStart, tablesLength}
 use Rattle.image_code.specs.Lengths.{head-length}
-use Rattle.image.specs.Image.{served, headWidths, headImage, recordImage, imageOf, headField, recordFrom, tablesFrom}
+use Rattle.image.specs.Image.{Form, headWidths, headImage, recordImage, imageOf, headField, recordFrom, tablesFrom}
 
-pub image-made : (t x ys z : List ℕ) → ys ≡ headImage served (getD t 0 0) → z ≡ take 1 (putMid 0 1 x ys) ++ joined (tab places (recordImage served t)) → z ≡ imageOf served t
+pub image-made : (f : Form) (t x ys z : List ℕ) → ys ≡ headImage f (getD t 0 0) → z ≡ take 1 (putMid 0 1 x ys) ++ joined (tab places (recordImage f t)) → z ≡ imageOf f t
 unfolding imageOf
-image-made t x ys z e f =
-    let records : List ℕ = joined (tab places (recordImage served t)) in
-    f ∙ ap (λ (k : List ℕ). take 1 (putMid 0 1 x k) ++ records) e
-    ∙ ap (λ (k : List ℕ). k ++ records) (take-at (headImage served (getD t 0 0)) (postOf 0 1 x) 1 (head-length served (getD t 0 0)))
+image-made f t x ys z e r =
+    let records : List ℕ = joined (tab places (recordImage f t)) in
+    r ∙ ap (λ (k : List ℕ). take 1 (putMid 0 1 x k) ++ records) e
+    ∙ ap (λ (k : List ℕ). k ++ records) (take-at (headImage f (getD t 0 0)) (postOf 0 1 x) 1 (head-length f (getD t 0 0)))
 
 -- the cells after the records, in tables that are zero from cell 1 on
 zeros-after : drop {A = ℕ} (openingsStart - 1) (replicate (tablesLength - 1) 0) ≡ replicate (tablesLength - openingsStart) 0
@@ -25,12 +25,12 @@ zeros-after =
     let m : ℕ = tablesLength - openingsStart in
     ap (drop {A = ℕ} n) (sym (replicate-append-replicate n m 0)) ∙ drop-at (replicate n 0) (replicate m 0) n (length-replicate {A = ℕ} n 0)
 
-pub tables-made : (img h x z : List ℕ) → h ≡ unpacked headWidths (rowOf (take 1 img)) → x ≡ replicate tablesLength 0
-    → z ≡ take 1 (set x 0 (getD h 1 0)) ++ (joined (tab places (recordFrom served img)) ++ drop openingsStart (set x 0 (getD h 1 0))) → z ≡ tablesFrom served img
+pub tables-made : (f : Form) (img h x z : List ℕ) → h ≡ unpacked headWidths (rowOf (take 1 img)) → x ≡ replicate tablesLength 0
+    → z ≡ take 1 (set x 0 (getD h 1 0)) ++ (joined (tab places (recordFrom f img)) ++ drop openingsStart (set x 0 (getD h 1 0))) → z ≡ tablesFrom f img
 unfolding tablesFrom headField part
-tables-made img h x z e w f =
-    let records : List ℕ = joined (tab places (recordFrom served img)) in
-    f ∙ (λ j. take 1 (set (w j) 0 (getD (e j) 1 0)) ++ (records ++ drop openingsStart (set (w j) 0 (getD (e j) 1 0))))
+tables-made f img h x z e w r =
+    let records : List ℕ = joined (tab places (recordFrom f img)) in
+    r ∙ (λ j. take 1 (set (w j) 0 (getD (e j) 1 0)) ++ (records ++ drop openingsStart (set (w j) 0 (getD (e j) 1 0))))
     ∙ ap (λ (k : List ℕ). headField img 1 ∷ (records ++ k)) zeros-after
 
 -- zero behind their first cell

@@ -1,7 +1,8 @@
 -- A turn of the loops over the 64 records: one piece more after the first cell. Assumes nothing.
-use Prim.Native.Nat.{ℕ, _+_, _-_, _*_, _≤_, _<_}
+use Prim.Native.Nat.{ℕ, suc, _+_, _-_, _*_, _≤_, _<_}
 use mathlib.Core.Path.{_≡_, sym, ap, _∙_}
 use mathlib.Core.List.{List, _++_, append-assoc, append-nil}
+use native.Mathlib.Nat.{mul-comm, mul-suc, mul-le-mul-left}
 use native.Mathlib.Numerals.{add-one}
 use native.Mathlib.Omega.{arith}
 use borrow.Rule.Slice.PartMut.{putMid, post-is, mid-len}
@@ -10,7 +11,7 @@ use lib.Seq.{length-take-le, take-at, drop-at, drop-append-add, drop-drop}
 use Rattle.combine.specs.Lists.{joined, tab, part}
 use Rattle.placing.specs.Sizes.{places, recordLength, tablesLength}
 use Rattle.tables.specs.Layout.{recordBase}
-use Rattle.image.specs.Image.{served, imageLength}
+use Rattle.image.specs.Image.{Form, imageLength}
 use Rattle.image_code.specs.Pieces.{pieces-suc, pieces-length}
 
 -- the cells from a to e
@@ -20,6 +21,18 @@ mid-part a e n l q h = mid-len a e l h ∙ omega arith
 pub mid-is : (a e n : ℕ) (l : List ℕ) → e ≡ a + n → take (e - a) (drop a l) ≡ part l a n
 unfolding part
 mid-is a e n l q = let k : e - a ≡ n = omega arith in ap (λ (y : ℕ). take y (drop a l)) k
+
+-- ---- pieces of m cells after the first cell
+
+-- within a row that has room for all
+pub pieces-in : (m p : ℕ) → p < places → 1 + m * p + m ≤ 1 + places * m
+pieces-in m p l = omega (arith, mul-le-mul-left {m = suc p} {n = places} m l, mul-suc m p, mul-comm m places)
+
+-- where the next one starts, as the code counts
+pub piece-next : (m p at cells : ℕ) → cells ≡ m → at ≡ 1 + m * p → (at + cells ≡ 1 + m * p + m) × (at + cells ≡ 1 + m * (p + 1))
+piece-next m p at cells e q =
+    let more : m * (p + 1) ≡ m * p + m = ap (λ (k : ℕ). m * k) (add-one p) ∙ mul-suc m p ∙ omega arith in
+    (omega arith, omega (arith, more))
 
 module _ (f : ℕ → List ℕ) (m : ℕ) (long : (p : ℕ) → length (f p) ≡ m) (x₀ : List ℕ) where
   -- x₀ with p pieces after its first cell
@@ -38,8 +51,8 @@ module _ (f : ℕ → List ℕ) (m : ℕ) (long : (p : ℕ) → length (f p) ≡
       let n : length h ≡ 1 + m * p = length-append (take 1 x₀) (joined (tab p f)) ∙ (λ j. length-take-le 1 x₀ some j + pieces-length f m long p j) in
       ap (drop (1 + m * p)) (i ∙ sym (append-assoc (take 1 x₀) (joined (tab p f)) d)) ∙ drop-at h d (1 + m * p) n
 
-  pub one-placed : (x ys : List ℕ) (p e : ℕ) → 1 ≤ length x₀ → e ≡ 1 + m * p + m → e ≡ 1 + m * (p + 1) → x ≡ placed p → ys ≡ f p → putMid (1 + m * p) (e - (1 + m * p)) x ys ≡ placed (p + 1)
-  one-placed x ys p e some q q′ i y =
+  pub one-placed : (x ys : List ℕ) (p at e : ℕ) → 1 ≤ length x₀ → at ≡ 1 + m * p → e ≡ 1 + m * p + m → e ≡ 1 + m * (p + 1) → x ≡ placed p → ys ≡ f p → putMid at (e - at) x ys ≡ placed (p + 1)
+  one-placed x ys p at e some here q q′ i y =
       let h : List ℕ = take 1 x₀ ++ joined (tab p f) in
       let d : List ℕ = drop (1 + m * p) x₀ in
       let n : length h ≡ 1 + m * p = length-append (take 1 x₀) (joined (tab p f)) ∙ (λ j. length-take-le 1 x₀ some j + pieces-length f m long p j) in
@@ -48,7 +61,8 @@ module _ (f : ℕ → List ℕ) (m : ℕ) (long : (p : ℕ) → length (f p) ≡
       let b : drop e x ≡ drop e x₀ =
       (λ j. drop (q j) (i′ j)) ∙ ap (λ (k : ℕ). drop (k + m) (h ++ d)) (sym n) ∙ drop-append-add h d m ∙ drop-drop m (1 + m * p) x₀ ∙ ap (λ (k : ℕ). drop k x₀) (sym q) in
       let g : joined (tab p f) ++ f p ≡ joined (tab (p + 1) f) = sym (ap (λ (k : ℕ). joined (tab k f)) (add-one p) ∙ pieces-suc p f) in
-      ap (λ (k : List ℕ). take (1 + m * p) x ++ (ys ++ k)) (post-is (1 + m * p) e x (omega arith))
+      ap (λ (k : ℕ). putMid k (e - k) x ys) here
+      ∙ ap (λ (k : List ℕ). take (1 + m * p) x ++ (ys ++ k)) (post-is (1 + m * p) e x (omega arith))
       ∙ (λ j. a j ++ (y j ++ b j)) ∙ append-assoc (take 1 x₀) (joined (tab p f)) (f p ++ drop e x₀)
       ∙ ap (λ (k : List ℕ). take 1 x₀ ++ k) (sym (append-assoc (joined (tab p f)) (f p) (drop e x₀)))
       ∙ (λ j. take 1 x₀ ++ (g j ++ drop (q′ j) x₀))
@@ -57,8 +71,8 @@ module _ (f : ℕ → List ℕ) (m : ℕ) (long : (p : ℕ) → length (f p) ≡
   all-placed x p e q r i = i ∙ ap placed q ∙ ap (λ (k : ℕ). take 1 x₀ ++ (joined (tab places f) ++ drop k x₀)) r
 
 -- nothing lies beyond the image's last record
-pub image-full : (x y z : List ℕ) → length x ≡ imageLength served → z ≡ take 1 x ++ (y ++ drop (imageLength served) x) → z ≡ take 1 x ++ y
-image-full x y z n e = e ∙ ap (λ (k : List ℕ). take 1 x ++ (y ++ k)) (drop-of-length-le x {i = imageLength served} (omega arith)) ∙ ap (λ (k : List ℕ). take 1 x ++ k) (append-nil y)
+pub image-full : (f : Form) (x y z : List ℕ) → length x ≡ imageLength f → z ≡ take 1 x ++ (y ++ drop (imageLength f) x) → z ≡ take 1 x ++ y
+image-full f x y z n e = e ∙ ap (λ (k : List ℕ). take 1 x ++ (y ++ k)) (drop-of-length-le x {i = imageLength f} (omega arith)) ∙ ap (λ (k : List ℕ). take 1 x ++ k) (append-nil y)
 
 -- ---- zeros
 

@@ -1,24 +1,30 @@
 -- A record's fields c and the zeros at its end, in the widths of a form. Assumes nothing.
-use Prim.Native.Nat.{ℕ, _+_, _-_, _^_, _≤_, _<_}
+use Prim.Native.Nat.{ℕ, _+_, _-_, _*_, _/_, _^_, _≤_, _<_}
 use mathlib.Core.Path.{_≡_, sym, ap, _∙_}
 use mathlib.Core.Logic.{⊎-elim}
 use mathlib.Core.Bool.{true}
-use mathlib.Core.List.{List, _++_}
+use mathlib.Core.List.{List, [], _∷_, _++_, append-nil}
 use native.Mathlib.Omega.{arith}
 use borrow.Author.Tests.{eqb-true, eq-eqb}
 use lib.Dec.{eqb}
-use lib.ListN.{length, getD, replicate, length-append, length-replicate, getD-replicate, List·getD-append}
+use lib.ListN.{length, getD, take, replicate, length-append, length-replicate, getD-replicate, List·getD-append}
 use lib.Pow.{pow-pos}
-use lib.Seq.{getD-append-add}
+use lib.Seq.{take-at, take-all, take-take, getD-append-add}
 use Rattle.combine.specs.Below.{allBelow}
 use Rattle.combine.specs.laws.Below.{all-at, all-make}
 use Rattle.combine.specs.laws.Numbers.{le-or-lt}
+use Rattle.combine.specs.laws.Parts.{length-part}
+use Rattle.packing.specs.Packing.{rowOf, sum, unpacked}
 use Rattle.packing_rows.specs.Waiting.{Fitting}
 use Rattle.packing_rows.specs.Zeros.{pack-zeros}
 use Rattle.placing.specs.Sizes.{recordLength}
-use Rattle.image.specs.Image.{Form, rowWidths, packedRecord}
-use Rattle.image.specs.laws.Formed.{Formed, row-many}
+use Rattle.image.specs.Image.{Form, form1, form2, rowWidths, packedRecord, recordPart, recordFrom}
+use Rattle.image.specs.Forms.{formOf}
+use Rattle.image.specs.declared.Form as code
+use Rattle.image.specs.declared.Form.the-variants.{One, Two}
+use Rattle.image.specs.laws.Formed.{Formed, formed1, formed2, row-many}
 use Rattle.image_code.specs.Fits.{Fits}
+use Rattle.image_code.specs.Widths.{fields-above}
 
 module _ (f : Form) where
   abbrev pub zerosOf : List ℕ
@@ -60,3 +66,22 @@ module _ (f : Form) where
 
         beyond : recordLength ≤ i → getD (c ++ zerosOf) i 0 < 2 ^ getD (rowWidths f) i 0
         beyond r = omega (arith, zero-behind c i (omega arith) (omega (arith, l, row-many f w)), pow-pos (getD (rowWidths f) i 0))
+
+-- the fields and one zero, as far as the form has widths
+pub row-taken : (form : code.Form) (c : List ℕ) (n : ℕ) → length c ≡ recordLength → n ≡ length (rowWidths (formOf form)) → take n (c ++ 0 ∷ []) ≡ c ++ zerosOf (formOf form)
+row-taken One c n l e = ap (λ (k : ℕ). take k (c ++ 0 ∷ [])) (e ∙ row-many form1 formed1) ∙ take-at c (0 ∷ []) recordLength l ∙ sym (append-nil c)
+row-taken Two c n l e = take-all n (c ++ 0 ∷ []) (omega (arith, e, row-many form2 formed2, l, length-append c (0 ∷ [])))
+
+-- ---- a record that is read
+
+-- the fields are the first of the widths
+pub fields-first : (f : Form) → Formed f → (r : List ℕ) → take (length (rowWidths f)) r ≡ rowWidths f → take recordLength r ≡ f .widths
+fields-first f w r e =
+    sym (take-take recordLength (length (rowWidths f)) r (omega (arith, row-many f w))) ∙ ap (take recordLength) e ∙ take-at (f .widths) (f .spare) recordLength (w .many)
+
+-- what is read of a record's cells, by its fields' widths
+pub record-taken : (f : Form) → Formed f → (img : List ℕ) (p : ℕ) (fields cells out : List ℕ) → fields ≡ f .widths → cells ≡ recordPart f img p → 1 + f .cells * p + f .cells ≤ length img
+    → out ≡ unpacked fields (rowOf cells / 2 ^ (32 * length cells - sum fields)) → out ≡ recordFrom f img p
+unfolding recordFrom
+record-taken f w img p fields cells out e h inside o =
+    o ∙ (λ j. unpacked (e j) (rowOf (h j) / 2 ^ (32 * length (h j) - sum (e j)))) ∙ fields-above f w (recordPart f img p) (length-part img (1 + f .cells * p) (f .cells) inside)

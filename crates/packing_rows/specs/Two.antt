@@ -7,7 +7,7 @@ use native.Mathlib.Omega.{arith}
 use lib.Pow.{shr-shr}
 use Rattle.packing.specs.Packing.{field, sum, unpacked}
 
-sum-append : (ws vs : List ℕ) → sum (ws ++ vs) ≡ sum ws + sum vs
+pub sum-append : (ws vs : List ℕ) → sum (ws ++ vs) ≡ sum ws + sum vs
 unfolding sum
 sum-append [] vs = omega arith
 sum-append (w ∷ ws) vs = omega (arith, sum-append ws vs)

@@ -2,7 +2,7 @@
 use mathlib.Core.Path.{_≡_, refl, ap, _∙_}
 use mathlib.Core.Bool.{true}
 use mathlib.Core.List.{List, [], _∷_}
-use Prim.Native.Nat.{ℕ, zero, suc, _+_, _*_, _%_, _^_, _<_}
+use Prim.Native.Nat.{ℕ, zero, suc, _+_, _*_, _/_, _%_, _^_, _<_}
 use native.Mathlib.Nat.{zero-div, zero-mod, zero-mul}
 use native.Mathlib.Omega.{arith}
 use lib.Dec.{eqb}
@@ -49,5 +49,7 @@ zeros l h = go l (λ k q. eqb-true (getD l k 0) 0 (all-at _ (length l) h k q))
 pub pack-zeros : (ws xs : List ℕ) (n : ℕ) → allBelow (length xs) (λ k. eqb (getD xs k 0) 0) ≡ true → cellsOf n (packed ws xs) ≡ replicate n 0
 pack-zeros ws xs n h = ap (λ (l : List ℕ). cellsOf n (packed ws l)) (zeros xs h) ∙ ap (cellsOf n) (packed-zeros ws (length xs)) ∙ cells-zero n
 
-pub unpack-zeros : (ws cs : List ℕ) → allBelow (length cs) (λ k. eqb (getD cs k 0) 0) ≡ true → unpacked ws (rowOf cs) ≡ replicate (length ws) 0
-unpack-zeros ws cs h = ap (λ (l : List ℕ). unpacked ws (rowOf l)) (zeros cs h) ∙ ap (unpacked ws) (row-zeros (length cs)) ∙ unpacked-zero ws
+pub unpack-zeros : (ws cs : List ℕ) (below : ℕ) → allBelow (length cs) (λ k. eqb (getD cs k 0) 0) ≡ true → unpacked ws (rowOf cs / 2 ^ below) ≡ replicate (length ws) 0
+unpack-zeros ws cs below h =
+    ap (λ (l : List ℕ). unpacked ws (rowOf l / 2 ^ below)) (zeros cs h) ∙ ap (λ (n : ℕ). unpacked ws (n / 2 ^ below)) (row-zeros (length cs))
+    ∙ ap (unpacked ws) (zero-div (2 ^ below)) ∙ unpacked-zero ws

@@ -1,8 +1,8 @@
 -- A save, beside the model's: "Saving writes the records only, whatever is open." Assumes nothing.
 use Prim.Native.Nat.{ℕ}
 use mathlib.Core.Path.{_≡_, refl, ap, _∙_}
-use mathlib.Core.Bool.{Bool, true, false, cond}
-use mathlib.Core.Option.{Option, none, some}
+use mathlib.Core.Bool.{Bool, true, false}
+use mathlib.Core.Option.{some}
 use mathlib.Core.List.{List}
 use lib.Dec.{eqb}
 use lib.ListN.{length}
@@ -14,15 +14,15 @@ use Rattle.rules.specs.House.{closedDown}
 use Rattle.rules.specs.Runs.{noRun}
 use Rattle.segments.specs.Free.{SegmentHouse}
 use Rattle.tables.specs.laws.Sound.{ranged-of}
-use Rattle.image.specs.Image.{served, imageLength, imageOf, tablesFrom}
+use Rattle.image.specs.Image.{served, imageLength, imageOf}
 use Rattle.cells.specs.Says.{houseOf}
 use Rattle.cells.specs.Outcomes.{Lent, Saved, saved, soundLent, saveOut}
-use Rattle.model.specs.Model.{Files, Model}
+use Rattle.model.specs.Model.{Model}
 use Rattle.model.specs.Step.{Report, report}
 use Rattle.model.specs.View.{viewHouse, view, filesIn}
 use Rattle.demands.specs.Demands.{Sound, Refines}
 use Rattle.proof_images.specs.Closed.{closed-says}
-use Rattle.proof_images.specs.Done.{saved-again, saved-sound}
+use Rattle.proof_images.specs.Done.{sound-files, saved-again, saved-sound}
 
 -- what is told of a save, and what users know afterwards: on cells, and in the model
 abbrev cellsSaid : List ℕ → List ℕ → List ℕ → Outcome Saved → Report × Model
@@ -34,9 +34,8 @@ modelSaid s t img a = (report (asks (save img)) a (some (closedDown (viewHouse s
 module _ (s t : List ℕ) (sound : soundLent s t ≡ true) where
   -- whatever a save writes is sound, and holds the permanent files
   pub saved-files : filesIn s (imageOf served t) ≡ some (closedDown (viewHouse s (houseOf t)))
-  unfolding filesIn
   saved-files =
-      ap (λ (b : Bool). cond {A = Option Files} b (some (viewHouse s (houseOf (tablesFrom served (imageOf served t))))) none) (saved-sound (length s) t sound)
+      sound-files s (imageOf served t) (saved-sound (length s) t sound)
       ∙ ap (λ (c : List ℕ). some (viewHouse s (houseOf c))) (saved-again (length s) t sound)
       ∙ ap (λ (h : SegmentHouse). some (viewHouse s h)) (closed-says t (ranged-of (length s) t sound .0))
 

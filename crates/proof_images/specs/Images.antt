@@ -131,16 +131,20 @@ module _ (f : Form) (w : Formed f) where
       getD-replicate (length (f .spare)) k 0 0 b ∙ sym (eqb-true (getD row (recordLength + k) 0) 0 (all-at _ (length (f .spare)) zero k b)) ∙ sym (getD-drop recordLength row k 0)) in
       ap (λ (x : List ℕ). take recordLength row ++ x) zeros ∙ take-append-drop recordLength row
 
+  -- a record of the tables is the one that the image gives for its place
+  pub record-in : (img : List ℕ) (p : ℕ) → p < places → part (tablesFrom f img) (recordBase p) recordLength ≡ recordFrom f img p
+  unfolding tablesFrom
+  record-in img p lp = piece-at (recordFrom f img) recordLength (record-from-length f w img) (headField img 1 ∷ []) (replicate (tablesLength - openingsStart) 0) places p lp
+
   module _ (img : List ℕ) (cells : Cells img) (long : length img ≡ imageLength f) (spares : sparesb f img ≡ true) where
     piece-in : (p : ℕ) → p < places → 1 + f .cells * p + f .cells ≤ length img
     piece-in p lp = omega (arith, long, mul-le-mul-left {m = suc p} {n = places} (f .cells) lp, mul-suc (f .cells) p, mul-comm (f .cells) places)
 
     piece-again : (p : ℕ) → p < places → recordImage f (tablesFrom f img) p ≡ recordPart f img p
-    unfolding recordImage packedRecord tablesFrom recordFrom sparesb
+    unfolding recordImage packedRecord recordFrom sparesb
     piece-again p lp =
         let c : List ℕ = recordPart f img p in
-        ap (λ (x : List ℕ). cellsOf (f .cells) (packed (rowWidths f) (x ++ zerosOf f)))
-        (piece-at (recordFrom f img) recordLength (record-from-length f w img) (headField img 1 ∷ []) (replicate (tablesLength - openingsStart) 0) places p lp)
+        ap (λ (x : List ℕ). cellsOf (f .cells) (packed (rowWidths f) (x ++ zerosOf f))) (record-in img p lp)
         ∙ ap (λ (x : List ℕ). cellsOf (f .cells) (packed (rowWidths f) x)) (row-whole c (all-at _ places spares p lp))
         ∙ cells-back (rowWidths f) (f .cells) (w .full) c (part-cells img (1 + f .cells * p) (f .cells) cells) (length-part img (1 + f .cells * p) (f .cells) (piece-in p lp))
 

@@ -3,5 +3,6 @@ pub mod Closed
 pub mod Lists
 pub mod Sound
 pub mod Images
+pub mod Facts
 pub mod Done
 pub mod Roundtrip

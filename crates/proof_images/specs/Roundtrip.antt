@@ -22,7 +22,8 @@ use Rattle.demands.specs.History.{viewOn}
 use Rattle.demands.specs.Demands.{SaveThenLoad, LoadThenSave}
 use Rattle.proof_images.specs.Closed.{closed, closed-says}
 use Rattle.proof_images.specs.Images.{image-again}
-use Rattle.proof_images.specs.Done.{imageb-facts, save-done, load-done, saved-again, saved-sound}
+use Rattle.proof_images.specs.Facts.{imageb-facts}
+use Rattle.proof_images.specs.Done.{save-done, load-done, saved-again, saved-sound}
 
 -- users see the same permanent files, and nothing open
 closed-view : (s t : List ℕ) → length t ≡ tablesLength → view s (closed t) ≡ model (length s) (closedDown (viewHouse s (houseOf t)))
@@ -47,7 +48,7 @@ save-then-load x buffer tables ok lb lt =
 saved-image : (s img buffer : List ℕ) → Cells img → imageb served (length s) img ≡ true → length buffer ≡ imageLength served
     → saveOut s (tablesFrom served img) buffer ≡ outcomeOf (done 0) (saved s (tablesFrom served img) img)
 saved-image s img buffer cells ok lb =
-    let f = imageb-facts (length s) img ok in
+    let f = imageb-facts served (length s) img ok in
     save-done s (tablesFrom served img) buffer (f .sound) lb
     ∙ ap (λ (i : List ℕ). outcomeOf (done 0) (saved s (tablesFrom served img) i)) (image-again served formed-served img cells (f .long) (f .spares) (f .form) (f .zeros))
 

@@ -1,8 +1,7 @@
 -- `call_load::load` meets its contract. Assumes nothing.
 use denote.Ref.{now}
-use native.Mathlib.Omega.{arith}
+use Rattle.call_load.proofs.Laws.{wrong-length, small-store}
 use borrow.Author.Needs.{needs}
-use Rattle.call_load.proofs.Laws.{wrong-length, small-store, image-length}
 use Rattle.call_load.proofs.load.Statement.{statement}
 use Rattle.call_load.proofs.load.Tie as tie
 
@@ -16,11 +15,6 @@ returns-2 c =
     let a = c .before .before .before .before .before .args in
     small-store (now (a .store)) (now (a .tables)) (now (a .image)) (c .before .if1 .left) (c .if2 .taken)
 
-returns-3 : tie.Need-returns-3
-returns-3 c =
-    let a = c .before .before .before .before .before .before .args in
-    image-length (now (a .store)) (now (a .tables)) (now (a .image)) (omega arith) (omega arith) (c .if3 .taken)
-
 slice-aggregate-judged : tie.Need-slice-aggregate-judged
 slice-aggregate-judged c = search needs
 
@@ -30,17 +24,10 @@ judged-requires c κs = search needs
 same-length : tie.Need-same-length
 same-length c = search needs
 
-returns-4 : tie.Need-returns-4
-returns-4 c = search needs
+returns-3 : tie.Need-returns-3
+returns-3 c = search needs
 
 pub load-spec : {M : Type 1} → statement M
 load-spec =
     tie.close
-    (tie.spec
-    returns
-    returns-2
-    returns-3
-    slice-aggregate-judged
-    judged-requires
-    same-length
-    returns-4)
+    (tie.spec returns returns-2 slice-aggregate-judged judged-requires same-length returns-3)

@@ -1,8 +1,12 @@
 -- `call_save::save` meets its contract. Assumes nothing.
 use denote.Ref.{now}
+use native.Mathlib.Nat.{le-refl}
 use borrow.Author.Needs.{needs}
 use Rattle.combine.specs.laws.Below.{was-true, was-false}
+use Rattle.placing.specs.Sizes.{greatestEnd}
 use Rattle.tables.specs.laws.Sound.{ranged-of}
+use Rattle.image.specs.Image.{served}
+use Rattle.image_code.specs.Fits.{sound-reaches}
 use Rattle.call_save.proofs.Laws.{unsound, wrong-length, written}
 use Rattle.call_save.proofs.save.Statement.{statement}
 use Rattle.call_save.proofs.save.Tie as tie
@@ -22,7 +26,8 @@ returns-2 c =
 
 put-image-requires : tie.Need-put-image-requires
 put-image-requires c κs =
-    (ranged-of _ _ (was-true (c .before .before .if1 .left) (c .before .before .before .sound .ensures)), c .before .if2 .left)
+    let ranged = ranged-of _ _ (was-true (c .before .before .if1 .left) (c .before .before .before .sound .ensures)) in
+    (ranged, sound-reaches _ ranged served (le-refl greatestEnd), c .before .if2 .left)
 
 same-length : tie.Need-same-length
 same-length c = search needs

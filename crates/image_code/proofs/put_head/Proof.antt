@@ -1,16 +1,20 @@
 -- `image_code::put_head` meets its contract: three fields fill a cell. Assumes nothing.
 use Prim.Native.Nat.{ℕ}
-use mathlib.Core.Path.{refl, ap, _∙_}
+use mathlib.Core.Path.{refl, sym, ap, subst, _∙_}
 use mathlib.Core.List.{[], _∷_}
 use native.Mathlib.Omega.{arith}
 use Rattle.packing.specs.Packing.{packed, cellsOf}
-use Rattle.image.specs.Image.{served, headWidths, headImage}
-use Rattle.image.specs.laws.Formed.{formed-served}
-use Rattle.image_code.specs.Widths.{head-sum, head-narrow}
+use Rattle.packing_rows.specs.Waiting.{Fitting}
+use Rattle.image.specs.Image.{headWidths, headImage}
+use Rattle.image.specs.Forms.{formOf}
+use Rattle.image_code.specs.Widths.{formed, head-sum, head-narrow}
 use Rattle.image_code.specs.Fits.{head-fits}
 use borrow.Author.Needs.{needs}
 use Rattle.image_code.proofs.put_head.Statement.{statement}
 use Rattle.image_code.proofs.put_head.Tie as tie
+
+number-requires : tie.Need-number-requires
+number-requires c κs = search needs
 
 slice-aggregate-pack : tie.Need-slice-aggregate-pack
 slice-aggregate-pack c = search needs
@@ -21,8 +25,10 @@ slice-aggregate-pack-2 c = search needs
 pack-requires : tie.Need-pack-requires
 unfolding headWidths
 pack-requires c κs =
-    let s = c .before .before .before .before in
-    (head-narrow, refl, omega (arith, head-sum), head-fits served formed-served (s .args .segments) (omega (arith, s .pre .1)))
+    let s = c .before .before .before .before .before in
+    let n = c .before .before .before .number in
+    let fits = head-fits (formOf (s .args .form)) (formed (s .args .form)) (s .args .segments) (omega (arith, s .pre .1)) in
+    (head-narrow, refl, omega (arith, head-sum), subst (λ (k : ℕ). Fitting headWidths (k ∷ s .args .segments ∷ 0 ∷ [])) (sym (n .ensures)) fits)
 
 same-length : tie.Need-same-length
 same-length c = search needs
@@ -30,14 +36,15 @@ same-length c = search needs
 returns : tie.Need-returns
 unfolding headImage headWidths
 returns c =
-    let f = c .before .before .pack in
-    let s = c .before .before .before .before .before .before .before in
-    f .ensures ∙ ap (λ (n : ℕ). cellsOf n (packed headWidths (served .number ∷ s .args .segments ∷ 0 ∷ []))) (s .pre .0)
+    let s = c .before .before .before .before .before .before .before .before in
+    let n = c .before .before .before .before .before .before .number in
+    c .before .before .pack .ensures ∙ (λ j. cellsOf (s .pre .0 j) (packed headWidths (n .ensures j ∷ s .args .segments ∷ 0 ∷ [])))
 
 pub put-head-spec : {M : Type 1} → statement M
 put-head-spec =
     tie.close
     (tie.spec
+    number-requires
     slice-aggregate-pack
     slice-aggregate-pack-2
     pack-requires

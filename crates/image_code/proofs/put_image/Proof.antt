@@ -1,5 +1,6 @@
 -- `image_code::put_image` meets its contract: the head, and then the records. Assumes nothing.
 use denote.Ref.{now}
+use Rattle.image.specs.Forms.{formOf}
 use Rattle.image_code.proofs.Made.{image-made}
 use borrow.Author.Needs.{needs}
 use Rattle.image_code.proofs.put_image.Statement.{statement}
@@ -29,7 +30,8 @@ same-length c = search needs
 returns : tie.Need-returns
 returns c =
     let s = c .before .before .before .before .before .before .before .before .before .before .before in
-    image-made (now (s .args .tables)) (now (s .args .image)) (c .before .before .before .before .before .before .put-head .last .1 .0) (c .before .before .put-records .last .1 .0) (c .before .before .before .before .before .before .put-head .ensures) (c .before .before .put-records .ensures)
+    image-made (formOf (s .args .form)) (now (s .args .tables)) (now (s .args .image)) (c .before .before .before .before .before .before .put-head .last .1 .1 .0) (c .before .before .put-records .last .1 .1 .0)
+    (c .before .before .before .before .before .before .put-head .ensures) (c .before .before .put-records .ensures)
 
 pub put-image-spec : {M : Type 1} → statement M
 put-image-spec =

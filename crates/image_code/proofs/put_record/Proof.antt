@@ -3,7 +3,7 @@ use Prim.Native.Nat.{ℕ}
 use mathlib.Core.Path.{sym, ap, _∙_}
 use denote.Ref.{now}
 use lib.ListN.{replicate}
-use Rattle.image.specs.Image.{served}
+use Rattle.image.specs.Forms.{formOf}
 use Rattle.image_code.specs.Rows.{packed-blank}
 use borrow.Author.Needs.{needs}
 use Rattle.image_code.proofs.put_record.Statement.{statement}
@@ -20,14 +20,14 @@ same-length c = search needs
 
 returns : tie.Need-returns
 returns c =
-    let s = c .before .before .before .before .before .before .before .before in
+    let s = c .before .before .before .before .before .before .before .before .before in
     c .before .before .fill-cells .ensures ∙ ap (λ (n : ℕ). replicate n 0) (s .pre .1)
-    ∙ sym (packed-blank served (now (s .args .values)) (s .pre .2 .blank (c .before .before .before .before .if1 .taken)))
+    ∙ sym (packed-blank (formOf (s .args .form)) (now (s .args .values)) (s .pre .2 .blank (c .before .before .before .before .if1 .taken)))
 
 pack-record-requires : tie.Need-pack-record-requires
 pack-record-requires c κs =
-    let s = c .before .before .before .before .before in
-    (s .pre .0, s .pre .1, s .pre .2 .fits)
+    let s = c .before .before .before .before .before .before in
+    (s .pre .0, s .pre .1, s .pre .2 .fits, s .pre .3)
 
 same-length-2 : tie.Need-same-length-2
 same-length-2 c = search needs

@@ -5,6 +5,7 @@ use denote.Ref.{now}
 use native.Mathlib.Omega.{arith}
 use lib.ListN.{length, getD, length-set, length-replicate}
 use Rattle.placing.specs.Sizes.{tablesLength}
+use Rattle.image.specs.Forms.{formOf}
 use borrow.Author.Needs.{needs}
 use Rattle.image_code.proofs.Made.{tables-made, zeros-behind}
 use Rattle.image_code.proofs.take_image.Statement.{statement}
@@ -35,13 +36,13 @@ take-records-requires c κs =
     (s .pre .0, z .0, z .1)
 
 same-length : tie.Need-same-length
-same-length c = c .before .before .take-records .kept .1 .0 ∙ length-set (now (c .before .before .before .before .before .before .before .before .args .tables)) 0 _
+same-length c = c .before .before .take-records .kept .1 .1 .0 ∙ length-set (now (c .before .before .before .before .before .before .before .before .args .tables)) 0 _
 
 returns : tie.Need-returns
 returns c =
     let s = c .before .before .before .before .before .before .before .before in
     let h = c .before .before .before .before .take-head in
-    tables-made (now (s .args .image)) (h .result) (now (s .args .tables)) (c .before .before .take-records .last .1 .0) (h .ensures) (s .pre .1) (c .before .before .take-records .ensures)
+    tables-made (formOf (s .args .form)) (now (s .args .image)) (h .result) (now (s .args .tables)) (c .before .before .take-records .last .1 .1 .0) (h .ensures) (s .pre .1) (c .before .before .take-records .ensures)
 
 pub take-image-spec : {M : Type 1} → statement M
 take-image-spec =

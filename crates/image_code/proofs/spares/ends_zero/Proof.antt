@@ -1,4 +1,4 @@
--- `image_code::spares_zero` meets its contract: all records before `p` passed the test. Assumes nothing.
+-- `image_code::spares::ends_zero` meets its contract: all records before `p` passed the test. Assumes nothing.
 use Prim.Native.Nat.{_≤_, _-_}
 use mathlib.Core.Path.{_≡_, _∙_}
 use mathlib.Core.Bool.{true}
@@ -8,13 +8,13 @@ use borrow.Author.Tests.{eq-eqb, ne-eqb}
 use Rattle.combine.specs.Below.{allBelow}
 use Rattle.combine.specs.laws.Below.{all-zero, all-more, loop-true, loop-false}
 use Rattle.placing.specs.Sizes.{places}
-use Rattle.image.specs.Image.{served, recordPart, spareb, sparesb}
+use Rattle.image.specs.Image.{form2, recordPart, spareb, sparesb}
 use Rattle.image_code.specs.Spare.{spare-in}
-use Rattle.image_code.proofs.spares_zero.Statement.{statement}
-use Rattle.image_code.proofs.spares_zero.Tie as tie
+use Rattle.image_code.proofs.spares.ends_zero.Statement.{statement}
+use Rattle.image_code.proofs.spares.ends_zero.Tie as tie
 
 abbrev Inv-loop : tie.InvT-loop
-Inv-loop image p₀ p = (p ≤ places) × (allBelow p (λ q. spareb served (recordPart served image q)) ≡ true)
+Inv-loop image p₀ p = (p ≤ places) × (allBelow p (λ q. spareb form2 (recordPart form2 image q)) ≡ true)
 
 abbrev μ-loop : tie.MeasureT-loop
 μ-loop image p₀ p = places - p
@@ -57,8 +57,8 @@ returns-2 : tie.Need-returns-2 Inv-loop μ-loop
 unfolding sparesb
 returns-2 c = loop-true _ places _ (omega arith) (omega arith) (c .before .loop .inv .1)
 
-pub spares-zero-spec : {M : Type 1} → statement M
-spares-zero-spec =
+pub ends-zero-spec : {M : Type 1} → statement M
+ends-zero-spec =
     tie.close
     (tie.spec
     Inv-loop

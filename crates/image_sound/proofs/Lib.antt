@@ -1,0 +1,2 @@
+-- What the code of `image_sound` does. Assumes nothing.
+pub mod Laws
