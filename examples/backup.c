@@ -5,6 +5,7 @@
  *     backup FILE show           all faults
  *
  * FILE is replaced in one step, so that whoever stops the program, and when, leaves the backup before or the one after.
+ * One that was made before version 7 is read as well, and replaced by one of today.
  * With `half` or `whole` as its last word the program waits to be killed when so much of the new file is written.
  */
 #define _POSIX_C_SOURCE 200809L
@@ -16,13 +17,15 @@
 #include <string.h>
 #include <unistd.h>
 
-enum { STORE_LENGTH = 1024, LONGEST_PATH = 4096, CELL_BYTES = 4, USER = 2, ENTRY = 0 };
+enum { STORE_LENGTH = 1024, SEGMENT_CELLS = 64, LONGEST_PATH = 4096, CELL_BYTES = 4, USER = 2, ENTRY = 0 };
 
 static const char name[] = "lift 7";
 static uint32_t store[STORE_LENGTH];
-static uint32_t *tables, *image;
+static uint32_t *tables, *image, *old;
 
 #define LENT store, STORE_LENGTH, tables, dorrivand_tables_length()
+#define IMAGE image, dorrivand_image_length()
+#define OLD_IMAGE old, dorrivand_old_image_length()
 #define NAMED (const uint8_t *)name, strlen(name)
 
 static void fail(const char *what, const char *why) {
@@ -71,8 +74,8 @@ static void back_up(const char *path, const char *stop) {
     FILE *file = fopen(new_path, "wb");
     if (file == NULL) fail(new_path, strerror(errno));
     /* No call between the save and the last cell: image and store are of one moment. */
-    done("save", dorrivand_save(LENT, image, dorrivand_image_length()));
-    put_cells(file, image, dorrivand_image_length());
+    done("save", dorrivand_save(LENT, IMAGE));
+    put_cells(file, IMAGE);
     put_cells(file, store, STORE_LENGTH / 2);
     fflush(file);
     wait_if(strcmp(stop, "half") == 0);
@@ -80,6 +83,25 @@ static void back_up(const char *path, const char *stop) {
     if (ferror(file) || fflush(file) != 0 || fsync(fileno(file)) != 0 || fclose(file) != 0) fail(new_path, strerror(errno));
     wait_if(strcmp(stop, "whole") == 0);
     if (rename(new_path, path) != 0 || !flush_folder_of(path)) fail(path, strerror(errno));
+}
+
+/* Whether the file has an image of so many cells before the store's. */
+static int has_image_of(FILE *file, size_t length) {
+    int is_so = fseek(file, 0, SEEK_END) == 0 && ftell(file) == (long)(CELL_BYTES * (length + STORE_LENGTH));
+    rewind(file);
+    return is_so;
+}
+
+/* An image that was saved before version 7, which its length tells, is moved up. */
+static void take_image(FILE *file, const char *path) {
+    if (has_image_of(file, dorrivand_image_length())) {
+        take_cells(file, IMAGE);
+    } else if (has_image_of(file, dorrivand_old_image_length())) {
+        take_cells(file, OLD_IMAGE);
+        done("move up", dorrivand_up(OLD_IMAGE, IMAGE, STORE_LENGTH / SEGMENT_CELLS));
+    } else {
+        fail(path, "not the length of a backup");
+    }
 }
 
 /* A backup that cannot be used is no reason for a fresh start: that is for the operator to say. */
@@ -90,11 +112,11 @@ static void restore(const char *path) {
         return;
     }
     if (file == NULL) fail(path, strerror(errno));
-    take_cells(file, image, dorrivand_image_length());
+    take_image(file, path);
     take_cells(file, store, STORE_LENGTH);
-    if (ferror(file) || feof(file) || getc(file) != EOF) fail(path, "not the length of a backup");
+    if (ferror(file) || feof(file)) fail(path, "cannot be read to its end");
     fclose(file);
-    done("load", dorrivand_load(LENT, image, dorrivand_image_length()));
+    done("load", dorrivand_load(LENT, IMAGE));
 }
 
 static void add(uint32_t number) {
@@ -121,8 +143,9 @@ static void show(void) {
 int main(int count, char **words) {
     if (dorrivand_version() != DORRIVAND_VERSION) fail("libdoor.a", "of another version than dorrivand.h");
     image = calloc(dorrivand_image_length(), sizeof *image);
+    old = calloc(dorrivand_old_image_length(), sizeof *old);
     tables = calloc(dorrivand_tables_length(), sizeof *tables);
-    if (image == NULL || tables == NULL) fail("cells", "no memory");
+    if (image == NULL || old == NULL || tables == NULL) fail("cells", "no memory");
     if (count == 3 && strcmp(words[2], "show") == 0) {
         restore(words[1]);
         show();
@@ -137,6 +160,7 @@ int main(int count, char **words) {
         fail("FILE add NUMBER, or FILE show", "wanted");
     }
     free(image);
+    free(old);
     free(tables);
     return EXIT_SUCCESS;
 }

@@ -12,9 +12,11 @@
 enum { STORE_LENGTH = 65536, LIST_LENGTH = 100, USER = 1, ENTRY = 2, FIRST_OWN = 3 };
 enum { STACK_BYTES = 1 << 18, MOST_BYTES = 32 * 1024, PAGE_BYTES = 4096, PATTERN = 0xA5 };
 
-static uint32_t store[STORE_LENGTH], list[LIST_LENGTH], *tables, *image;
+static uint32_t store[STORE_LENGTH], list[LIST_LENGTH], *tables, *image, *old;
 
 #define LENT store, STORE_LENGTH, tables, dorrivand_tables_length()
+#define IMAGE image, dorrivand_image_length()
+#define OLD_IMAGE old, dorrivand_old_image_length()
 #define NAMED (const uint8_t *)"lift 7", 6
 
 static uint64_t nothing(void) { return 0; }
@@ -28,8 +30,10 @@ static uint64_t delete_pointer(void) { return dorrivand_delete(LENT, USER, ENTRY
 static uint64_t rename_it(void) { return dorrivand_rename(LENT, USER, ENTRY, NAMED); }
 static uint64_t claim(void) { return dorrivand_claim(LENT, USER, ENTRY); }
 static uint64_t close_public(void) { return dorrivand_public(LENT, USER, ENTRY); }
-static uint64_t save(void) { return dorrivand_save(LENT, image, dorrivand_image_length()); }
-static uint64_t load(void) { return dorrivand_load(LENT, image, dorrivand_image_length()); }
+static uint64_t save(void) { return dorrivand_save(LENT, IMAGE); }
+static uint64_t move_down(void) { return dorrivand_down(IMAGE, OLD_IMAGE, STORE_LENGTH / 64); }
+static uint64_t move_up(void) { return dorrivand_up(OLD_IMAGE, IMAGE, STORE_LENGTH / 64); }
+static uint64_t load(void) { return dorrivand_load(LENT, IMAGE); }
 static uint64_t tidy(void) { return dorrivand_tidy(LENT); }
 static uint64_t open_work(void) { return dorrivand_work(LENT, USER, ENTRY, NAMED); }
 static uint64_t take_first(void) { return dorrivand_next(LENT, USER, ENTRY, DORRIVAND_BEGIN); }
@@ -90,6 +94,8 @@ static struct call calls[] = {
     {"claim", claim},
     {"close public", close_public},
     {"save", save},
+    {"down", move_down},
+    {"up", move_up},
     {"load", load},
     {"work", open_work},
     {"reset", reset},
@@ -132,8 +138,9 @@ int main(void) {
     struct call none = {"nothing", nothing};
     int status = EXIT_SUCCESS;
     image = calloc(dorrivand_image_length(), sizeof *image);
+    old = calloc(dorrivand_old_image_length(), sizeof *old);
     tables = calloc(dorrivand_tables_length(), sizeof *tables);
-    if (image == NULL || tables == NULL) return EXIT_FAILURE;
+    if (image == NULL || old == NULL || tables == NULL) return EXIT_FAILURE;
     for (size_t i = 0; i < sizeof calls / sizeof *calls; i++) {
         long bytes = -touched(&none);
         bytes += touched(&calls[i]);
@@ -141,6 +148,7 @@ int main(void) {
         if (!dorrivand_is_done(answer) || bytes > MOST_BYTES) status = EXIT_FAILURE;
     }
     free(image);
+    free(old);
     free(tables);
     return status;
 }

@@ -7,8 +7,7 @@
  *     gcc program.c -Iinclude target/staticlib/libdoor.a
  *
  * What the caller must see to:
- *   - A slice is a pointer and a number of elements: the pointer points to as many elements as the number says. Where
- *     the number is 0, any pointer will do.
+ *   - A slice is a pointer and the number of elements that it points to. Where the number is 0, any pointer will do.
  *   - A place is a pointer to one cell.
  *   - The slices and the place lent to one call do not overlap, and nobody else writes to them before it returns.
  * Nothing else. Numbers may be any numbers, slices of any length, cells and names of any contents: every call ends and
@@ -34,6 +33,7 @@
 #define DORRIVAND_H
 
 #include "dorrivand_answers.h"
+#include "dorrivand_forms.h"
 #include "dorrivand_signed.h"
 #include <stddef.h>
 #include <stdint.h>
@@ -58,7 +58,7 @@ enum dorrivand_species {
 };
 
 /* The version that this header belongs to: it grows by 1 with each change that a caller can notice. */
-#define DORRIVAND_VERSION 7
+#define DORRIVAND_VERSION 8
 
 /* The version of the library that is linked. */
 uint32_t dorrivand_version(void);
@@ -88,8 +88,8 @@ uint64_t dorrivand_save(const uint32_t *store, size_t store_length, const uint32
 
 /* Load: the image's records and its number of segments, nothing open. What the tables held is not looked at. The elements
  * are those that the store's cells hold now. Over cells of another moment the load is done all the same, and a landlord's
- * file reads what a neighbour has written into its segments since the save. An image that a version before 7 saved, 897 cells
- * of form 1, is refused; tables that it left are good as they are.
+ * file reads what a neighbour has written into its segments since the save. An image that a version before 7 saved is refused
+ * until dorrivand_up has moved it; tables that such a version left are good as they are.
  * Refusals: 20 (the lengths alone); 22. */
 uint64_t dorrivand_load(const uint32_t *store, size_t store_length, uint32_t *tables, size_t tables_length,
                         const uint32_t *image, size_t image_length);

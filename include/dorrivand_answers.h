@@ -53,7 +53,8 @@ enum dorrivand_refusal {
     DORRIVAND_UNSOUND_TABLES = 20,
     DORRIVAND_NO_POINTER_LEFT = 21,
     DORRIVAND_UNSOUND_IMAGE = 22,
-    DORRIVAND_TOO_WIDE = 23
+    DORRIVAND_TOO_WIDE = 23,
+    DORRIVAND_FAR = 24
 };
 
 /* A refusal in words; "unknown" for a number that is none. */
@@ -81,6 +82,7 @@ static inline const char *dorrivand_words(uint32_t refusal) {
     case DORRIVAND_NO_POINTER_LEFT: return "no own pointer left";
     case DORRIVAND_UNSOUND_IMAGE: return "image of wrong length, or unsound";
     case DORRIVAND_TOO_WIDE: return "a number too wide for its species, or outside its range where it is signed";
+    case DORRIVAND_FAR: return "a begin or an end too great for the old image";
     default: return "unknown";
     }
 }

@@ -21,7 +21,7 @@ for seed in "$@"; do
         substr($1, 1, 1) == "?" { bad++ }
         END {
             printf "seed %s: done %d, bad lines %d, refused", seed, done, bad
-            for (number = 1; number <= 23; number++) {
+            for (number = 1; number <= 24; number++) {
                 printf " %d:%d", number, count[number]
                 # "12 is never given again."
                 if (number != 12 && count[number] < least) scarce = scarce " " number

@@ -1,4 +1,4 @@
-//! Proved code and twin held against each other: the same answer, and the same store, tables, image, list and place afterwards; and runs held
+//! Proved code and twin held against each other: the same answer, and the same store, tables, images, list and place afterwards; and runs held
 //! against their single calls. A difference stops the program. Calls that the twin does not have lead the proved code on, and the twin follows.
 use crate::calls::{refusal, Call, Lent, Performer, ABSENT};
 use crate::heard::{Heard, GREATEST_REFUSAL};
@@ -23,6 +23,7 @@ pub fn both(call: &Call, lent: &mut Lent, beside: &mut Lent) -> (i64, bool) {
     assert!(lent.tables == beside.tables, "proved code and twin leave different tables: {call:?}");
     assert!(lent.store == beside.store, "proved code and twin leave different stores: {call:?}");
     assert!(lent.image == beside.image, "proved code and twin leave different images: {call:?}");
+    assert!(lent.old == beside.old, "proved code and twin leave different images of form 1: {call:?}");
     assert!(lent.list == beside.list, "proved code and twin leave different lists: {call:?}");
     assert_eq!(lent.place, beside.place, "proved code and twin put different numbers in the place: {call:?}");
     (answer, twins != ABSENT)
@@ -40,8 +41,8 @@ fn run_alike(run: &Call, stood: &Lent, answer: i64, after: &Lent) {
     }
 }
 
-/// The same as both, counted. Whether it was done.
-pub fn counted(call: &Call, lent: &mut Lent, beside: &mut Lent, heard: &mut Heard) -> bool {
+/// The same as both, counted. The refusal that it was answered with or that stopped it, 0 where there was none.
+pub fn refused_by(call: &Call, lent: &mut Lent, beside: &mut Lent, heard: &mut Heard) -> usize {
     let stood = call.single().map(|_| lent.clone());
     let (answer, twins) = both(call, lent, beside);
     let refusal = refusal(call, answer, lent) as usize;
@@ -52,7 +53,12 @@ pub fn counted(call: &Call, lent: &mut Lent, beside: &mut Lent, heard: &mut Hear
     if twins {
         heard.count(call, answer, refusal);
     }
-    refusal == 0
+    refusal
+}
+
+/// The same. Whether it was done.
+pub fn counted(call: &Call, lent: &mut Lent, beside: &mut Lent, heard: &mut Heard) -> bool {
+    refused_by(call, lent, beside, heard) == 0
 }
 
 fn judged_alike(tables: &[u32]) -> bool {

@@ -1,11 +1,12 @@
 //! The calls that are measured and those that lead up to them, as data, so that one list of them is made of every build and of the twin alike.
 
-/// What is lent to a call: store, tables and one image buffer, and to a run the list that it fills and the place for what stopped it.
+/// What is lent to a call: store, tables, an image buffer and one of form 1, and to a run the list that it fills and the place for what stopped it.
 #[derive(Clone, PartialEq)]
 pub struct Lent {
     pub store: Vec<u32>,
     pub tables: Vec<u32>,
     pub image: Vec<u32>,
+    pub old: Vec<u32>,
     pub list: Vec<u32>,
     pub place: u32,
 }
@@ -20,6 +21,9 @@ pub const DELIVERED: u32 = 40;
 pub enum Call {
     Save,
     Load,
+    /// Moves the image of form 1 up into the image buffer, as over a store of so many segments; or the image down into that of form 1.
+    Up(u32),
+    Down(u32),
     Tidy,
     Free(u32),
     New(At, u32),

@@ -61,12 +61,25 @@ pub const UNSOUND_IMAGES: [fn(&mut Random, &mut Lent); 6] = [
     |_, lent| put_form(&mut lent.image, 1),
     |random, lent| put_form(&mut lent.image, [0, 3, 6, 130, 255][random.below(5) as usize]),
     // "Load takes a 961-cell form 2 image only"
-    |_, lent| lent.image.truncate(form_1::LENGTH),
+    |_, lent| lent.image.truncate(twin::OLD_IMAGE),
     |_, lent| lent.image = form_1::image(&lent.tables),
     |_, lent| {
         lent.image = form_1::image(&lent.tables);
         lent.image.resize(twin::IMAGE, 0);
     },
+];
+
+/// What makes any image of form 1 unsound, each by itself, of document 01's rules. The image buffer has the same of form 2.
+pub const UNSOUND_OLD_IMAGES: [fn(&mut Random, &mut Lent); 6] = [
+    // "form 8 bits (1)"
+    |_, lent| put_form(&mut lent.old, 2),
+    |random, lent| put_form(&mut lent.old, [0, 3, 5, 129, 255][random.below(5) as usize]),
+    |_, lent| lent.old = lent.image[..twin::OLD_IMAGE].to_vec(),
+    // "13 zero bits"
+    |random, lent| lent.old[0] ^= 1 << random.below(13),
+    // "1 to 1,024 segments"
+    |_, lent| lent.old[0] &= !(0x7FF << 13),
+    |random, lent| lent.old[0] |= 1 << 23 | (1 + random.below(1023)) << 13,
 ];
 
 fn put_form(image: &mut [u32], form: u32) {

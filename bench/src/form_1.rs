@@ -1,7 +1,6 @@
-//! Document 01's catalogue image, bit by bit: no load takes it any more ("form 1 waits for P7").
+//! Document 01's catalogue image, bit by bit: what a move down must write, and no load takes.
 use crate::twin::layout::{record, records};
 
-pub const LENGTH: usize = 897;
 const FORM: u32 = 1;
 
 /// "used 1, name 12 x 6, owner 3, private 1, species 3, begin 24, end 24, then 32 segment numbers of 10 bits"

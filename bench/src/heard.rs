@@ -1,16 +1,18 @@
 //! What the random calls were answered, and that each answer was given often enough to mean something.
 use crate::calls::{is_done, Call};
 
-pub const GREATEST_REFUSAL: usize = 23;
+pub const GREATEST_REFUSAL: usize = 24;
 /// How often each answer was given by both: 0 is done, n is refused n.
 pub type Answers = [u32; 1 + GREATEST_REFUSAL];
 
-/// The answers that the twin can give to calls that are no runs; to signed ones; to a tidying that moves nothing; to a load; what can stop a run; what can
-/// after its first element.
-const TWINS: [usize; 15] = [0, 1, 2, 4, 5, 6, 7, 8, 9, 10, 14, 19, 20, 22, 23];
+/// The answers that the twin can give to calls that are no runs; to signed ones; to a tidying that moves nothing; to a load; to moves of an image; what can
+/// stop a run; what can after its first element.
+const TWINS: [usize; 16] = [0, 1, 2, 4, 5, 6, 7, 8, 9, 10, 14, 19, 20, 22, 23, 24];
 const SIGNED: [usize; 13] = [0, 1, 2, 4, 5, 6, 7, 8, 9, 10, 19, 20, 23];
 const UNMOVED: [usize; 3] = [0, 14, 20];
 const LOADS: [usize; 3] = [0, 20, 22];
+const UPS: [usize; 2] = [0, 22];
+const DOWNS: [usize; 3] = [0, 22, 24];
 const STOPS: [usize; 13] = [0, 1, 2, 4, 5, 6, 7, 8, 9, 10, 19, 20, 23];
 const LATE_STOPS: [usize; 6] = [0, 7, 8, 9, 10, 23];
 /// Each of them must have been given so often at least.
@@ -28,6 +30,9 @@ pub struct Heard {
     pub unmoved: Answers,
     /// Loads.
     pub loads: Answers,
+    /// Moves of an image, up and down.
+    pub ups: Answers,
+    pub downs: Answers,
     /// Openings that may be far from their records: how many were in unsound tables, and how many in sound ones.
     pub apart: [u32; 2],
     /// What stopped the runs, 0 for nothing; and of those that came to an element.
@@ -57,6 +62,8 @@ impl Heard {
                 self.unmoved[refusal] += u32::from(!moved);
             }
             Call::Load => self.loads[refusal] += 1,
+            Call::Up(..) => self.ups[refusal] += 1,
+            Call::Down(..) => self.downs[refusal] += 1,
             _ => {}
         }
         self.calls[refusal] += 1;
@@ -67,6 +74,8 @@ impl Heard {
         often(&SIGNED, &self.signed);
         often(&UNMOVED, &self.unmoved);
         often(&LOADS, &self.loads);
+        often(&UPS, &self.ups);
+        often(&DOWNS, &self.downs);
         often(&STOPS, &self.runs);
         often(&LATE_STOPS, &self.late);
         assert!(self.below_zero >= OFTEN, "too seldom among the random calls: a number below zero is read");
@@ -88,6 +97,8 @@ impl Heard {
             self.moved, self.unmoved
         );
         println!("loads among them, done and refused: {:?}", self.loads);
+        println!("images moved up among them, done and refused: {:?}", self.ups);
+        println!("images moved down among them, done and refused: {:?}", self.downs);
         let [unsound, sound] = self.apart;
         println!("openings apart from their records: {sound} in sound tables, {unsound} in unsound ones.");
         println!("{runs} random runs, {} elements: alike too, and as their single calls.", self.elements);

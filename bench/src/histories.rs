@@ -5,10 +5,12 @@ use crate::chance::Chance;
 use crate::far::apart;
 use crate::heard::Heard;
 use crate::scenes::HERE;
-use crate::starts::{crowded, files_near_limits, full_files, lent, one_file, open_one, scattered_files};
+use crate::starts::{
+    crowded, files_about_form_1, files_near_limits, full_files, lent, one_file, open_one, scattered_files,
+};
 use crate::tables::{empty, filled, open_new, short, Content, CELLS};
 use crate::twin::{GREATEST_END, GREATEST_SPECIES, SEGMENT_CELLS, SIGNED_SPECIES};
-use crate::{damage, twin};
+use crate::{damage, moves, twin};
 
 /// A history of so many calls; once in so many calls some are made over damaged cells, which are then forgotten.
 fn history(chance: &mut Chance, mut lent: Lent, calls: u32, damage: u32, heard: &mut Heard) {
@@ -21,6 +23,9 @@ fn history(chance: &mut Chance, mut lent: Lent, calls: u32, damage: u32, heard: 
         }
         if chance.random.one_in(damage) {
             load_damaged_image(chance, lent.clone(), heard);
+        }
+        if chance.random.one_in(damage) {
+            moves::of_saved(&mut chance.random, lent.clone(), heard);
         }
     }
 }
@@ -114,8 +119,8 @@ fn images(chance: &mut Chance, heard: &mut Heard) {
     counted(&Call::Load, &mut lent.clone(), &mut lent, heard);
 }
 
-/// Random histories over stores of several sizes, from empty, crowded and scattered tables and from openings apart from their records, tidyings, images, and
-/// runs and single accesses on files of any kind.
+/// Random histories over stores of several sizes, from empty, crowded and scattered tables and from openings apart from their records, tidyings, images and
+/// their moves, and runs and single accesses on files of any kind.
 pub fn all() -> Heard {
     let mut heard = Heard::default();
     let mut chance = Chance::new(1973);
@@ -134,6 +139,12 @@ pub fn all() -> Heard {
         tidy_scattered(&mut chance, &mut heard);
         openings_apart(&mut chance, &mut heard);
         images(&mut chance, &mut heard);
+    }
+    moves::about_the_greatest_end(&mut chance.random, &mut heard);
+    for _ in 0..2_000 {
+        let lent = files_about_form_1(&mut chance.random);
+        moves::of_saved(&mut chance.random, lent.clone(), &mut heard);
+        moves::of_unsound(&mut chance.random, lent, &mut heard);
     }
     for _ in 0..5_000 {
         runs_on_one_file(&mut chance, &mut heard);

@@ -3,6 +3,7 @@ use crate::book::Book;
 use crate::calls::Call::{self, *};
 use crate::measure;
 use crate::scenes::{full, open_file, own, records, Scene, HERE};
+use crate::tables::SEGMENTS;
 use crate::twin::{AS_WIDE_AS_SIGNED, SIGNED_SPECIES, WHOLE_SPECIES};
 
 /// Any number of records; a call that needs one; a call that needs a free place.
@@ -93,6 +94,11 @@ fn images(book: &mut Book) {
     on_full(book, "save", full(), Save, None);
     rows(book, "load", ANY, |number| records(number).after(&[Save]), Load);
     on_full(book, "load", full().after(&[Save]), Load, None);
+    let old = [Save, Down(SEGMENTS)];
+    rows(book, "up", ANY, |number| records(number).after(&old), Up(SEGMENTS));
+    on_full(book, "up", full().after(&old), Up(SEGMENTS), None);
+    rows(book, "down", ANY, |number| records(number).after(&[Save]), Down(SEGMENTS));
+    on_full(book, "down", full().after(&[Save]), Down(SEGMENTS), None);
 }
 
 /// Calls that the twin does not have.

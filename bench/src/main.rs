@@ -14,6 +14,7 @@ mod heard;
 mod histories;
 mod kinds;
 mod measure;
+mod moves;
 mod numbers;
 #[cfg(sqlite)]
 mod peer;
@@ -46,6 +47,7 @@ const PASSES: usize = 8;
 
 fn main() {
     assert_eq!(proved::NOW.lengths(), (twin::TABLES, twin::IMAGE), "the twin's tables or image are not this build's");
+    assert_eq!(proved::NOW.old_length(), twin::OLD_IMAGE, "the twin's image of form 1 is not this build's");
     agree_first();
     let (mut book, mut beside) = (book::Book::default(), beside::Beside::default());
     for _ in 0..measure::asked("PASSES", PASSES) {

@@ -45,8 +45,11 @@ type Write = *mut u32;
 exports! {
     tables_length() -> usize;
     image_length() -> usize;
+    old_image_length() -> usize;
     save(Read<u32>, usize, Read<u32>, usize, Write, usize) -> u64;
     load(Read<u32>, usize, Write, usize, Read<u32>, usize) -> u64;
+    up(Read<u32>, usize, Write, usize, u32) -> u64;
+    down(Read<u32>, usize, Write, usize, u32) -> u64;
     tidy(Write, usize, Write, usize) -> u64;
     free(Read<u32>, usize, Read<u32>, usize, u32) -> u64;
     new(Read<u32>, usize, Write, usize, u32, u32, u32) -> u64;
@@ -80,6 +83,11 @@ impl Build {
         unsafe { ((self.tables_length)(), (self.image_length)()) }
     }
 
+    /// That of its images of form 1.
+    pub fn old_length(&self) -> usize {
+        unsafe { (self.old_image_length)() }
+    }
+
     /// 1 where the tables are sound beside a store of so many cells, else 0.
     pub fn sound(&self, tables: &[u32], cells: usize) -> u32 {
         unsafe { (self.measure_sound)(tables.as_ptr(), tables.len(), cells) }
@@ -94,7 +102,7 @@ impl Build {
     }
 
     fn perform(&self, call: &Call, lent: &mut Lent) -> i64 {
-        let Lent { store, tables, image, list, place } = lent;
+        let Lent { store, tables, image, old, list, place } = lent;
         macro_rules! door {
             (const $name:ident $(, $more:expr)*) => {
                 (unsafe { (self.$name)(store.as_ptr(), store.len(), tables.as_ptr(), tables.len() $(, $more)*) }) as i64
@@ -109,6 +117,8 @@ impl Build {
         match *call {
             Call::Save => door!(const save, image.as_mut_ptr(), image.len()),
             Call::Load => door!(mut load, image.as_ptr(), image.len()),
+            Call::Up(segments) => moved(self.up, old, image, segments),
+            Call::Down(segments) => moved(self.down, image, old, segments),
             Call::Tidy => door!(both tidy),
             Call::Free(user) => door!(const free, user),
             Call::New((user, entry), species) => door!(mut new, user, entry, species),
@@ -136,6 +146,13 @@ impl Build {
             }
         }
     }
+}
+
+/// One image is read and the other written; nothing else is lent to a move.
+type Move = unsafe extern "C" fn(Read<u32>, usize, Write, usize, u32) -> u64;
+
+fn moved(export: Move, read: &[u32], written: &mut [u32], segments: u32) -> i64 {
+    (unsafe { export(read.as_ptr(), read.len(), written.as_mut_ptr(), written.len(), segments) }) as i64
 }
 
 /// This build makes a call.

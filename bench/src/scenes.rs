@@ -27,7 +27,14 @@ impl Scene {
     fn of(tables: Vec<u32>) -> Scene {
         let list = vec![0; LONGEST_RUN];
         Scene {
-            lent: Lent { store: vec![0; CELLS], tables, image: vec![0; twin::IMAGE], list, place: 0 },
+            lent: Lent {
+                store: vec![0; CELLS],
+                tables,
+                image: vec![0; twin::IMAGE],
+                old: vec![0; twin::OLD_IMAGE],
+                list,
+                place: 0,
+            },
             first: vec![],
         }
     }

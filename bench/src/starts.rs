@@ -3,19 +3,18 @@ use crate::calls::{At, Lent};
 use crate::chance::LONGEST_RUN;
 use crate::random::Random;
 use crate::tables::{empty, file, open_new, reading, relist, short, Content, CELLS, ELEMENTS, SEGMENTS};
-use crate::twin::layout::{opening, opening_mut, record, PLACES};
-use crate::twin::{GREATEST_END, IMAGE, MOST_HELD, SEGMENT_CELLS, SIGNED_SPECIES};
+use crate::twin::layout::{opening, opening_mut, record, records_mut, PLACES};
+use crate::twin::{GREATEST_END, IMAGE, MOST_HELD, OLD_GREATEST_END, OLD_IMAGE, SEGMENT_CELLS, SIGNED_SPECIES};
 
 /// So few that a file or two hold nearly all of them.
 const FEW_SEGMENTS: u32 = 40;
-/// What the greatest end was before document 02's P6, of 24 bits.
-const END_OF_FORM_1: u32 = 16_777_215;
 
 pub fn lent(cells: usize, tables: Vec<u32>) -> Lent {
     Lent {
         store: (0..cells as u32).map(|cell| cell.wrapping_mul(0x9E37_79B9)).collect(),
         tables,
         image: vec![0; IMAGE],
+        old: vec![0; OLD_IMAGE],
         list: (0..LONGEST_RUN).collect(),
         place: 0,
     }
@@ -51,11 +50,24 @@ pub fn files_near_limits(place: u32) -> Content {
 
 /// Nothing is open. Files of any kind, some or till one does not fit, hold segments from all over the store.
 pub fn scattered_files(random: &mut Random) -> Lent {
+    scattered(random, any_content)
+}
+
+/// The same of files that mostly have room in form 1, each private or public.
+pub fn files_about_form_1(random: &mut Random) -> Lent {
+    let mut lent = scattered(random, content_about_form_1);
+    for cells in records_mut(&mut lent.tables).filter(|cells| cells[record::USED] == 1) {
+        cells[record::PRIVATE] = random.below(2);
+    }
+    lent
+}
+
+fn scattered(random: &mut Random, any: fn(&mut Random) -> Content) -> Lent {
     let most = if random.one_in(3) { FEW_SEGMENTS } else { SEGMENTS };
     let segments = 1 + random.below(most);
     let (mut left, mut tables) = (random.shuffled(segments), empty(segments));
     for place in 0..random.below(PLACES as u32 + 1) as usize {
-        let content = any_content(random);
+        let content = any(random);
         let Some(free) = left.len().checked_sub(content.held() as usize) else { break };
         file(&mut tables, place, short(place), place as u32 % 8, content);
         relist(&mut tables, place, left.drain(free..));
@@ -105,9 +117,28 @@ fn any_content(random: &mut Random) -> Content {
         0..=1 => 1,
         2..=3 => GREATEST_END - random.below(2 * per_segment),
         4 => GREATEST_END - random.below(MOST_HELD * per_segment),
-        5 => END_OF_FORM_1 - random.below(2 * per_segment),
+        5 => OLD_GREATEST_END - random.below(2 * per_segment),
         _ => 1 + random.below(GREATEST_END),
     };
+    content_from(random, species, begin)
+}
+
+/// Begin and end are at most the greatest of form 1, and often just that; those of few files go beyond, as one that does keeps a whole image from moving down.
+fn content_about_form_1(random: &mut Random) -> Content {
+    let species = random.below(ELEMENTS.len() as u32);
+    let greatest = OLD_GREATEST_END + if random.one_in(60) { 1 + random.below(2) } else { 0 };
+    let begin = match random.below(4) {
+        0 => 1,
+        1 => greatest,
+        2 => greatest - random.below(2 * ELEMENTS[species as usize]),
+        _ => 1 + random.below(greatest),
+    };
+    let content = content_from(random, species, begin);
+    Content { end: content.end.min(greatest), ..content }
+}
+
+fn content_from(random: &mut Random, species: u32, begin: u32) -> Content {
+    let per_segment = ELEMENTS[species as usize];
     let held = match random.below(4) {
         0 => 0,
         1 => 31 + random.below(2),

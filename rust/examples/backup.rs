@@ -4,9 +4,10 @@
 //!     backup FILE show           all faults
 //!
 //! FILE is replaced in one step, so that whoever stops the program, and when, leaves the backup before or the one after.
+//! One that was made before version 7 is read as well, and replaced by one of today.
 //! With `half` or `whole` as its last word the program waits to be killed when so much of the new file is written.
 
-use dorrivand::{image_length, pointer, tables_length, Refusal, Species, Store};
+use dorrivand::{forms, image_length, old_image_length, pointer, tables_length, Refusal, Species, Store};
 use std::env;
 use std::error::Error;
 use std::fs::{self, File};
@@ -16,6 +17,7 @@ use std::process::ExitCode;
 use std::thread;
 
 const STORE_LENGTH: usize = 1024;
+const SEGMENTS: u32 = (STORE_LENGTH / 64) as u32;
 const CELL_BYTES: usize = 4;
 const USER: u32 = 2;
 const ENTRY: u32 = 0;
@@ -63,6 +65,16 @@ fn back_up(store: &Store, path: &Path, stop: &str) -> Result<(), Box<dyn Error>>
     Ok(())
 }
 
+/// An image that was saved before version 7, which its length tells, is moved up.
+fn image_of(saved: &[u32]) -> Result<Vec<u32>, Refusal> {
+    if saved.len() != old_image_length() {
+        return Ok(saved.to_vec());
+    }
+    let mut image = vec![0; image_length()];
+    forms::up(saved, &mut image, SEGMENTS)?;
+    Ok(image)
+}
+
 /// A backup that cannot be used is no reason for a fresh start: that is for the operator to say.
 fn restored(path: &Path) -> Result<Store<'static>, Box<dyn Error>> {
     let bytes = match fs::read(path) {
@@ -73,13 +85,12 @@ fn restored(path: &Path) -> Result<Store<'static>, Box<dyn Error>> {
         }
         read => read?,
     };
-    if bytes.len() != CELL_BYTES * (image_length() + STORE_LENGTH) {
-        return Err("not the length of a backup".into());
-    }
+    let lengths = [image_length(), old_image_length()];
+    let length = lengths.into_iter().find(|length| bytes.len() == CELL_BYTES * (length + STORE_LENGTH));
     let cells = cells_of(&bytes);
-    let (image, cells) = cells.split_at(image_length());
+    let (saved, cells) = cells.split_at(length.ok_or("not the length of a backup")?);
     let mut store = Store::from_cells(cells.to_vec(), vec![0; tables_length()]);
-    store.load(image)?;
+    store.load(&image_of(saved)?)?;
     Ok(store)
 }
 

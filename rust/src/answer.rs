@@ -128,7 +128,7 @@ mod tests {
     #[test]
     #[should_panic(expected = "not an answer")]
     fn a_refusal_without_a_case() {
-        let _ = answer(0x1_0000_0018);
+        let _ = answer(0x1_0000_0019);
     }
 
     #[test]
@@ -162,9 +162,9 @@ mod tests {
     }
 
     #[test]
-    #[should_panic(expected = "24, which is not what stops a run")]
+    #[should_panic(expected = "25, which is not what stops a run")]
     fn a_stop_without_a_case() {
-        let _ = stop(24);
+        let _ = stop(25);
     }
 
     #[test]

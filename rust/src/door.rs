@@ -55,10 +55,13 @@ door! {
     version = dorrivand_version() -> u32;
     tables_length = dorrivand_tables_length() -> usize;
     image_length = dorrivand_image_length() -> usize;
+    old_image_length = dorrivand_old_image_length() -> usize;
     name_of = dorrivand_name_of(name: &[u8], symbols: &mut [u32]) -> usize;
     fresh = dorrivand_fresh(store: &[u32], tables: &mut [u32]) -> u64;
     save = dorrivand_save(store: &[u32], tables: &[u32], image: &mut [u32]) -> u64;
     load = dorrivand_load(store: &[u32], tables: &mut [u32], image: &[u32]) -> u64;
+    up = dorrivand_up(old: &[u32], image: &mut [u32], segments: u32) -> u64;
+    down = dorrivand_down(image: &[u32], old: &mut [u32], segments: u32) -> u64;
     tidy = dorrivand_tidy(store: &mut [u32], tables: &mut [u32]) -> u64;
     free = dorrivand_free(store: &[u32], tables: &[u32], user: u32) -> u64;
     new = dorrivand_new(store: &[u32], tables: &mut [u32], user: u32, entry: u32, species: u32) -> u64;

@@ -104,7 +104,7 @@
 //!
 //! The module keeps nothing anywhere but in the cells that it is lent. docs/OPERATING.md says what to write to disk, and
 //! `examples/backup.rs` does it. [`Store::tidy`] brings the files' segments together at the begin of the cells; after it a
-//! store is saved again. Images that a library before version 7 saved [cannot be loaded](Store::load).
+//! store is saved again. Images that a library before version 7 saved are [moved up](forms) before they are loaded.
 
 #![deny(missing_docs)]
 #![deny(unsafe_code)]
@@ -116,6 +116,7 @@ mod cells;
 #[allow(unsafe_code)]
 mod door;
 mod elements;
+pub mod forms;
 mod name;
 pub mod pointer;
 mod refusal;
@@ -140,7 +141,7 @@ pub fn tables_length() -> usize {
     door::tables_length()
 }
 
-/// The one length of an image, in cells.
+/// The one length of an image that is saved or loaded, in cells.
 ///
 /// ```
 /// assert_eq!(dorrivand::image_length(), 961);
@@ -148,4 +149,14 @@ pub fn tables_length() -> usize {
 #[must_use]
 pub fn image_length() -> usize {
     door::image_length()
+}
+
+/// The one length of an image of form 1, which libraries before version 7 saved and [`forms`] moves, in cells.
+///
+/// ```
+/// assert_eq!(dorrivand::old_image_length(), 897);
+/// ```
+#[must_use]
+pub fn old_image_length() -> usize {
+    door::old_image_length()
 }

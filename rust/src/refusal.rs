@@ -63,6 +63,8 @@ pub enum Refusal {
     UnsoundImage = 22,
     /// 23: a number too wide for its species, or outside its range where it is signed.
     TooWide = 23,
+    /// 24: a begin or an end too great for the old image: it is above 16,777,215.
+    Far = 24,
 }
 
 impl Refusal {
@@ -70,7 +72,7 @@ impl Refusal {
     ///
     /// ```
     /// let numbers: Vec<u32> = dorrivand::Refusal::ALL.iter().map(|refusal| refusal.number()).collect();
-    /// assert_eq!(numbers, (1..=23).filter(|&number| number != 12).collect::<Vec<u32>>());
+    /// assert_eq!(numbers, (1..=24).filter(|&number| number != 12).collect::<Vec<u32>>());
     /// ```
     pub const ALL: &'static [Refusal] = &[
         Refusal::NoSuchUser,
@@ -95,9 +97,10 @@ impl Refusal {
         Refusal::NoPointerLeft,
         Refusal::UnsoundImage,
         Refusal::TooWide,
+        Refusal::Far,
     ];
 
-    /// The refusal's number, 1 to 23 but 12.
+    /// The refusal's number, 1 to 24 but 12.
     #[must_use]
     pub const fn number(self) -> u32 {
         self as u32
@@ -111,7 +114,7 @@ impl Refusal {
     /// assert_eq!(Refusal::from_number(9), Some(Refusal::NoRoom));
     /// assert_eq!(Refusal::from_number(0), None);
     /// assert_eq!(Refusal::from_number(12), None);
-    /// assert_eq!(Refusal::from_number(24), None);
+    /// assert_eq!(Refusal::from_number(25), None);
     /// ```
     #[must_use]
     pub fn from_number(number: u32) -> Option<Refusal> {
@@ -142,6 +145,7 @@ impl Refusal {
             Refusal::NoPointerLeft => "no own pointer left",
             Refusal::UnsoundImage => "image of wrong length, or unsound",
             Refusal::TooWide => "a number too wide for its species, or outside its range where it is signed",
+            Refusal::Far => "a begin or an end too great for the old image",
         }
     }
 }

@@ -2,11 +2,12 @@
 
 #[path = "common/image.rs"]
 mod image;
+#[path = "common/printed.rs"]
+mod printed;
 
 use dorrivand::{pointer, Refusal, Species, Store};
 use image::{heading, image_of};
-
-const SEGMENTS: usize = 128;
+use printed::{of_length, store_with_a, FORM_1_LENGTH, SEGMENTS, WITH_A};
 
 /// "480 bits, 961 cells in all"
 const LENGTH: usize = 961;
@@ -15,19 +16,6 @@ const RECORD_CELLS: usize = 15;
 
 /// "16 zero bits at a record's end"
 const SPARE_BITS: u32 = 16;
-
-const FORM_1_LENGTH: usize = 897;
-
-/// "the cells printed in 01 stay true of form 1": those of `store_with_a`, before zeros.
-const PRINTED_IN_01: [u32; 5] = [0x0110_0000, 0x95FF_FFFF, 0xFFFF_FFFF, 0xFFAD_0000, 0x0100_0002];
-
-/// The store of document 01's second image.
-fn store_with_a() -> Store<'static> {
-    let mut store = Store::with_segments(SEGMENTS).expect("there are segments");
-    assert_eq!((store.open_new(2, 0, Species::Bits32), store.write(2, 0, pointer::END, 7)), (Ok(()), Ok(())));
-    assert_eq!((store.rename(2, 0, "a"), store.close_private(2, 0)), (Ok(()), Ok(())));
-    store
-}
 
 /// Makes the call, which must refuse the image and change no cell.
 fn assert_refused(store: &mut Store, call: impl FnOnce(&mut Store) -> Result<(), Refusal>) {
@@ -38,13 +26,6 @@ fn assert_refused(store: &mut Store, call: impl FnOnce(&mut Store) -> Result<(),
 
 fn assert_not_loaded(image: &[u32]) {
     assert_refused(&mut store_with_a(), |store| store.load(image));
-}
-
-/// The image, zeros after it as far as it is shorter.
-fn of_length(image: &[u32], length: usize) -> Vec<u32> {
-    let mut cells = image.to_vec();
-    cells.resize(length, 0);
-    cells
 }
 
 /// All that follows spoils an image that is loaded as it is.
@@ -78,11 +59,11 @@ fn other_form_numbers() {
     }
 }
 
-/// "form 1 waits for P7": in its own length, in that of form 2, and where it only says that it is form 2.
+/// Not before they are moved up: in their own length, in that of form 2, and where one only says that it is form 2.
 #[test]
 fn images_of_earlier_versions() {
-    let fresh = of_length(&PRINTED_IN_01[..1], FORM_1_LENGTH);
-    let with_a = of_length(&PRINTED_IN_01, FORM_1_LENGTH);
+    let fresh = of_length(&WITH_A[..1], FORM_1_LENGTH);
+    let with_a = of_length(&WITH_A, FORM_1_LENGTH);
     for image in [fresh, with_a.clone()] {
         assert_not_loaded(&image);
         assert_not_loaded(&of_length(&image, LENGTH));

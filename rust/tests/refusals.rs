@@ -1,6 +1,10 @@
 //! Each refusal once, with its number, and that it leaves every cell as it stood.
 
-use dorrivand::{pointer, Refusal, Species, Store};
+use dorrivand::{forms, pointer, Refusal, Species, Store};
+
+/// The begin and the end of the record at place 0 in the tables (docs/TABLES.md).
+const RECORD_BEGIN: usize = 1 + 16;
+const RECORD_END: usize = 1 + 17;
 
 /// What is needed for most refusals: of user 0 a private file "mine" and a public file "ours", of user 1 a private "his".
 fn three_files() -> Store<'static> {
@@ -152,4 +156,18 @@ fn tables_and_images() {
     refused(&mut store, 20, |store| store.free_segments(8));
     refused(&mut store, 20, |store| store.save(&mut image));
     assert!(image == [5; 960]);
+}
+
+#[test]
+fn moves_of_images() {
+    let mut store = three_files();
+    let (mut image, mut old) = (vec![5; 961], vec![5; 897]);
+    // "mine" is at place 0: its record says one position, in segment 0, now at another stretch.
+    (store.tables_mut()[RECORD_BEGIN], store.tables_mut()[RECORD_END]) = (16_777_217, 16_777_218);
+    assert_eq!(store.save(&mut image), Ok(()));
+    refused(&mut store, 24, |_| forms::down(&image, &mut old, 3));
+    refused(&mut store, 22, |_| forms::down(&image, &mut old, 2));
+    assert!(old == [5; 897]);
+    refused(&mut store, 22, |_| forms::up(&old, &mut image, 3));
+    assert_eq!(image[0], 0x0200_6000);
 }

@@ -9,8 +9,9 @@ use filing::telling::{history, mode::Mode};
 use filing::text::answering::Desk;
 use filing::text::line::{BufferName, Line};
 
-fn sums(desk: &mut Desk) -> [String; 5] {
-    ["sum store", "sum tables", "sum image0", "sum list0", "sum list1"].map(|line| answer(desk, line))
+fn sums(desk: &mut Desk) -> [String; 8] {
+    ["store", "tables", "image0", "image1", "image2", "image3", "list0", "list1"]
+        .map(|buffer| answer(desk, &format!("sum {}", buffer)))
 }
 
 /// The number at which a run was stopped, if the answer is a run's and it was.
@@ -65,6 +66,11 @@ fn refusals_change_nothing_among_damage() {
     refusals_change_nothing(13, 3_000, Mode::Damage);
 }
 
+#[test]
+fn refusals_change_nothing_among_moves() {
+    refusals_change_nothing(14, 3_000, Mode::Moves);
+}
+
 /// "Every call leaves sound tables sound", and what is kept (elements, free segments, openings) is what the
 /// tables' and the store's cells say.
 #[test]
@@ -84,8 +90,8 @@ fn what_is_kept_is_what_the_cells_say() {
 /// "12 is never given again."
 const NEVER_GIVEN: usize = 12;
 
-/// The numbers are 1 to 23.
-const NUMBERS: usize = 24;
+/// The numbers are 1 to 24.
+const NUMBERS: usize = 25;
 
 /// How often each number is the answer to a single call.
 fn count_refusals(seed: u64, count: usize, mode: Mode) -> [usize; NUMBERS] {

@@ -56,7 +56,7 @@ fn lengths() {
     check(&mut desk, &[("load 0", "done 0"), ("save 0", "done 0")]);
 }
 
-/// "the cells printed in 01 stay true of form 1", and "form 1 waits for P7".
+/// "the cells printed in 01 stay true of form 1", and load takes no such image; P7 moves it first.
 #[test]
 fn the_images_of_document_01() {
     let fresh: &[u32] = &[0x0110_0000];

@@ -86,6 +86,8 @@ fn runs_equal_single_calls() {
                 runs += 1;
             }
         }
-        assert!(runs > 100, "{}: {} runs", word, runs);
+        // Histories of moves have few runs.
+        let least = if mode == Mode::Moves { 30 } else { 100 };
+        assert!(runs > least, "{}: {} runs", word, runs);
     }
 }

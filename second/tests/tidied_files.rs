@@ -6,7 +6,7 @@ use common::lists::{check_cells, put_into_list0};
 use common::scattered::{list_cell, make, remove, scattered_desk};
 use common::{answer, check, fresh_desk};
 use filing::cells::fields::record as of_record;
-use filing::cells::image::FORM;
+use filing::cells::image::SAVED_FORM;
 use filing::rules::sizes::SEGMENT_CELLS;
 use filing::text::answering::Desk;
 use filing::text::line::BufferName;
@@ -121,7 +121,7 @@ fn the_image_saved_afterwards() {
     let mut desk = scattered_desk();
     check(&mut desk, &[("tidy", "done 128"), ("save 0", "done 0")]);
     let image = desk.cells(BufferName::Image(0)).into_owned();
-    let record = |place| FORM.unpacked_record(&image[FORM.cells_of(place)]);
+    let record = |place| SAVED_FORM.unpacked_record(&image[SAVED_FORM.cells_of(place)]);
     let first_segments = [1, 3, 4].map(|place| record(place).numbers[of_record::LIST.start]);
     assert_eq!(first_segments, [1, 0, 2]);
     check(&mut desk, &[("fresh", "done 0"), ("load 0", "done 0"), ("tidy", "done 0"), ("free 0", "done 4")]);

@@ -173,7 +173,7 @@ fn wanted_with_pokes() -> Vec<String> {
 
 fn check(mode: Mode, wanted: Vec<String>) {
     let mut counts = Counts::new();
-    (1..=4).for_each(|seed| count(seed, mode, &mut counts));
+    (1..=6).for_each(|seed| count(seed, mode, &mut counts));
     let scarce: Vec<_> = wanted.iter().filter(|thing| counts.get(*thing).map_or(true, |&count| count < 5)).collect();
     assert!(scarce.is_empty(), "{:?}: too seldom: {:?}", mode, scarce);
 }

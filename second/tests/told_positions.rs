@@ -7,7 +7,7 @@ use common::calls::{call, refusal, Call};
 use filing::cells::fields::{all_entries, opening_cells, record_cells};
 use filing::cells::fields::{opening as of_opening, record as of_record};
 use filing::cells::form::Heading;
-use filing::cells::image::{catalogue_of, FORM, IMAGE_LENGTH};
+use filing::cells::image::{catalogue_of, SAVED_FORM, SAVED_LENGTH};
 use filing::model::catalogue::Catalogue;
 use filing::model::opening::{BEGIN, END};
 use filing::rules::sizes::PLACES;
@@ -50,7 +50,7 @@ fn seen_image(desk: &Desk, image: usize, said: &str) -> Option<String> {
     let (cells, lent) = (desk.cells(buffer), desk.lent(buffer));
     let form = Heading::of_cell(cells[0]).form;
     match said {
-        "refused 22" if lent != IMAGE_LENGTH => Some(format!("{} cells of form {} refused", lent, form)),
+        "refused 22" if lent != SAVED_LENGTH => Some(format!("{} cells of form {} refused", lent, form)),
         "refused 22" => seen_one_fault(desk, &cells[..lent]),
         "done 0" => {
             let catalogue = desk.tables.usable(&desk.store).ok()?;
@@ -65,16 +65,17 @@ fn seen_image(desk: &Desk, image: usize, said: &str) -> Option<String> {
 fn seen_one_fault(desk: &Desk, cells: &[u32]) -> Option<String> {
     let heading = Heading::of_cell(cells[0]);
     let mut mended = cells.to_vec();
-    mended[0] = Heading { form: FORM.number, ..heading }.cell();
-    if catalogue_of(&mended, &desk.store).is_ok() {
+    mended[0] = Heading { form: SAVED_FORM.number, ..heading }.cell();
+    if catalogue_of(SAVED_FORM, &mended, &desk.store).is_ok() {
         return Some(format!("form {} alone refused", heading.form));
     }
-    let faulty = (0..PLACES).find(|&place| FORM.unpacked_record(&cells[FORM.cells_of(place)]).spare != 0)?;
-    let mut record = FORM.unpacked_record(&cells[FORM.cells_of(faulty)]);
+    let faulty =
+        (0..PLACES).find(|&place| SAVED_FORM.unpacked_record(&cells[SAVED_FORM.cells_of(place)]).spare != 0)?;
+    let mut record = SAVED_FORM.unpacked_record(&cells[SAVED_FORM.cells_of(faulty)]);
     record.spare = 0;
-    mended[FORM.cells_of(faulty)].copy_from_slice(&FORM.packed_record(&record));
+    mended[SAVED_FORM.cells_of(faulty)].copy_from_slice(&SAVED_FORM.packed_record(&record));
     let used = record.numbers[of_record::USED] == 1;
-    match catalogue_of(&mended, &desk.store) {
+    match catalogue_of(SAVED_FORM, &mended, &desk.store) {
         Ok(_) => Some(format!("spare bits alone refused in a record that is {}", if used { "used" } else { "unused" })),
         Err(_) => None,
     }
@@ -154,7 +155,7 @@ const WANTED: [&str; 25] = [
 #[test]
 fn the_end_of_positions() {
     let mut counts = Counts::new();
-    (1..=4).for_each(|seed| count(seed, &mut counts));
+    (1..=6).for_each(|seed| count(seed, &mut counts));
     let scarce: Vec<_> = WANTED.iter().filter(|&&thing| counts.get(thing).map_or(true, |&count| count < 5)).collect();
     assert!(scarce.is_empty(), "too seldom: {:?} in {:#?}", scarce, counts);
 }

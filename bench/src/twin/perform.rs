@@ -15,10 +15,12 @@ pub fn perform_singly(call: &Call, lent: &mut Lent) -> i64 {
 }
 
 fn by<M: Means>(call: &Call, lent: &mut Lent) -> i64 {
-    let Lent { store, tables, image, list, place } = lent;
+    let Lent { store, tables, image, old, list, place } = lent;
     packed(match *call {
         Call::Save => image::save(store, tables, image),
         Call::Load => image::load(store, tables, image),
+        Call::Up(segments) => image::up(old, image, segments),
+        Call::Down(segments) => image::down(image, old, segments),
         Call::Tidy => tidy::tidy(store, tables),
         Call::Free(user) => free::free(store, tables, user),
         Call::Write((user, entry), pointer, number) => write::write(store, tables, user, entry, pointer, number),

@@ -55,6 +55,8 @@ refusalNumber R.Pointers = 21
 refusalNumber R.Image = 22
 -- a number too wide for its species, or outside its range where it is signed (document 02, P5)
 refusalNumber R.Wide = 23
+-- a begin or an end beyond 16,777,215, the greatest of form 1 (document 02, P7)
+refusalNumber R.Far = 24
 
 -- what an answer says
 abbrev pub said : Answer → Said

@@ -26,6 +26,7 @@ pub enum Refusal {
     Pointers,
     Image,
     Wide,
+    Far,
 }
 
 // "An answer is either done, with its number where there is one, or refused, with one of these inside it": done is 0 where
@@ -68,5 +69,6 @@ pub fn number(refusal: Refusal) -> u32
         Refusal::Pointers => 21,
         Refusal::Image => 22,
         Refusal::Wide => 23,
+        Refusal::Far => 24,
     }
 }

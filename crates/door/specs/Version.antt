@@ -3,4 +3,4 @@ use Prim.Native.Nat.{ℕ}
 
 -- grows by 1 with each change that a caller can notice
 abbrev pub version : ℕ
-version = 7
+version = 8

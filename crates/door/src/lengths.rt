@@ -1,7 +1,7 @@
 // The lengths that a caller lends.
 ghost use mathlib.Core.Path.{_≡_};
 ghost use Rattle.placing.specs.Sizes.{tablesLength};
-ghost use Rattle.image.specs.Image.{served, imageLength};
+ghost use Rattle.image.specs.Image.{form1, served, imageLength};
 
 #[no_mangle]
 pub extern "C" fn dorrivand_tables_length() -> usize
@@ -15,4 +15,12 @@ pub extern "C" fn dorrivand_image_length() -> usize
     ensures { λ r. ⌜ r ≡ imageLength served ⌝ }
 {
     image::IMAGE_LENGTH
+}
+
+// Of form 1.
+#[no_mangle]
+pub extern "C" fn dorrivand_old_image_length() -> usize
+    ensures { λ r. ⌜ r ≡ imageLength form1 ⌝ }
+{
+    image::OLD_IMAGE_LENGTH
 }

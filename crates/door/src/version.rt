@@ -6,5 +6,5 @@ ghost use Rattle.door.specs.Version.{version};
 pub extern "C" fn dorrivand_version() -> u32
     ensures { λ r. ⌜ r ≡ version ⌝ }
 {
-    7
+    8
 }

@@ -12,8 +12,8 @@ use Rattle.names.specs.Names.{Bytes, nameOf}
 use Rattle.rules.specs.Calls.{new, work, read, rename, reset, newPointer, write, next, prev, writeSigned, nextSigned, prevSigned, askBegin, askEnd, askValue, Request, opens, closes, abandons, uses}
 use Rattle.rules.specs.Calls.{Run, writes, fills, tidy, Call, fresh, starts, arranges, on, runs}
 use Rattle.rules.specs.Runs.{RunTold, noRun}
-use Rattle.image.specs.Image.{form1}
-use Rattle.examples.specs.Holding.{Example, numbers, answers, gives, tells, saves, packs}
+use Rattle.image.specs.Image.{form1, form2}
+use Rattle.examples.specs.Holding.{Example, numbers, answers, gives, tells, saves, packs, moves}
 
 -- ---- the examples; a user's calls are of user 2 by entry 0
 
@@ -80,8 +80,18 @@ savedFile = saves (segmentCells * 128) (starts fresh ∷ makesFileA) imageWithA
 abbrev pub printedFresh : Example
 printedFresh = packs form1 (segmentCells * 128) (starts fresh ∷ []) (0x01100000 ∷ replicate 896 0)
 
+abbrev pub oldImageWithA : Cells
+oldImageWithA = 0x01100000 ∷ 0x95FFFFFF ∷ 0xFFFFFFFF ∷ 0xFFAD0000 ∷ 0x01000002 ∷ replicate 892 0
+
 abbrev pub printedFile : Example
-printedFile = packs form1 (segmentCells * 128) (starts fresh ∷ makesFileA) (0x01100000 ∷ 0x95FFFFFF ∷ 0xFFFFFFFF ∷ 0xFFAD0000 ∷ 0x01000002 ∷ replicate 892 0)
+printedFile = packs form1 (segmentCells * 128) (starts fresh ∷ makesFileA) oldImageWithA
+
+-- the one that is printed, moved up for a store of 128 segments, is the one that is saved; and back (document 02, P7)
+abbrev pub movedUp : Example
+movedUp = moves form1 form2 oldImageWithA 128 imageWithA
+
+abbrev pub movedDown : Example
+movedDown = moves form2 form1 imageWithA 128 oldImageWithA
 
 -- file 10, 20 opened for work, prev through 1, append 99, abandon: read gives 10, 20
 abbrev pub givenUp : Example
@@ -182,4 +192,4 @@ degrees =
     ∷ refused 19 ∷ done (pos 0) ∷ refused 19 ∷ refused 19 ∷ []))
 
 abbrev pub worked : List Example
-worked = lift7 ∷ lift ∷ ten ∷ notCut ∷ claims ∷ lastClaim ∷ appends ∷ ownPointer ∷ savedFresh ∷ savedFile ∷ printedFresh ∷ printedFile ∷ givenUp ∷ runsAnswered ∷ runsTold ∷ startsAtTheEnd ∷ looksAbsent ∷ tidies ∷ degrees ∷ []
+worked = lift7 ∷ lift ∷ ten ∷ notCut ∷ claims ∷ lastClaim ∷ appends ∷ ownPointer ∷ savedFresh ∷ savedFile ∷ printedFresh ∷ printedFile ∷ movedUp ∷ movedDown ∷ givenUp ∷ runsAnswered ∷ runsTold ∷ startsAtTheEnd ∷ looksAbsent ∷ tidies ∷ degrees ∷ []

@@ -11,6 +11,7 @@ use Rattle.numbers.specs.Numbers.{signedOf}
 use Rattle.rules.specs.Calls.{Call}
 use Rattle.rules.specs.Runs.{RunTold}
 use Rattle.image.specs.Image.{Form, served, imageLength, imageOf}
+use Rattle.image.specs.Reformed.{reformedOut}
 use Rattle.cells.specs.Outcomes.{Lent, lent, saved, saveOut, callRun}
 use Rattle.demands.specs.History.{outcomeOn, afterCall, final}
 
@@ -48,6 +49,10 @@ unfoldable pub PacksAfter : Form → (cells : ℕ) (calls : List Call) (image : 
 PacksAfter f n calls image =
     (store tables : Cells) → length store ≡ n → length tables ≡ tablesLength → imageOf f (final calls (lent store tables) .tables) ≡ image
 
+-- an image of one form, moved to another for a store of so many segments, is this one, whatever the buffer held (document 02, P7)
+unfoldable pub MovesTo : (from to : Form) (image : Cells) (segments : ℕ) (moved : Cells) → Type 0
+MovesTo f g image n moved = (buffer : Cells) → length buffer ≡ imageLength g → reformedOut f g image buffer n ≡ outcomeOf (done 0) moved
+
 -- ---- what is said of that, and of numbers that the definitions give
 
 pub data Example : Type 0 where
@@ -57,6 +62,7 @@ pub data Example : Type 0 where
   tells : (cells : ℕ) (calls : List Call) (told : List RunTold) → Example
   saves : (cells : ℕ) (calls : List Call) (image : Cells) → Example
   packs : (form : Form) (cells : ℕ) (calls : List Call) (image : Cells) → Example
+  moves : (from to : Form) (image : Cells) (segments : ℕ) (moved : Cells) → Example
 
 abbrev pub Holds : Example → Type 0
 Holds (numbers given said) = given ≡ said
@@ -65,6 +71,7 @@ Holds (gives n calls given) = GivesSo n calls given
 Holds (tells n calls told) = TellsSo n calls told
 Holds (saves n calls image) = SavesAfter n calls image
 Holds (packs f n calls image) = PacksAfter f n calls image
+Holds (moves f g image n moved) = MovesTo f g image n moved
 
 abbrev pub AllHold : List Example → Type 0
 AllHold [] = Unit {0}

@@ -25,6 +25,7 @@ use Rattle.history_buffers.specs.Buffers.{answering, lentOf, Tested, testing, t
 use Rattle.history_lent.specs.Rooms.{imageBuffer, listBuffer, lastImage, lastList, othersLength, firstImage, firstList, imageStart, listStart, otherAt, withOther, beforeRest, Lending}
 use Rattle.history_lent.specs.Images.{imageLine}
 use Rattle.history_lent.specs.Lists.{runLine}
+use Rattle.history_lent.specs.Moves.{Moving, moveLine}
 
 -- ---- calls
 
@@ -49,12 +50,18 @@ out a s t i = record { answered = a; store = s; tables = t; others = i }
 abbrev pub lentOut : List ℕ → Lending → Out
 lentOut l x = out (answering (x .reply) l) (x .store) (x .tables) (x .others)
 
+-- one that is lent images alone: store and tables stay as they were
+abbrev pub movedOut : List ℕ → List ℕ → List ℕ → Moving → Out
+movedOut l s t x = out (answering (x .reply) l) s t (x .others)
+
 -- a line that asks for a call, by its first word, which ends at a place
 abbrev pub callBy : OfLent → List ℕ → List ℕ → ℕ → List ℕ → List ℕ → List ℕ → Out
 callBy lending.Save l line at s t i = lentOut l (imageLine l (oneNumber (numbersAt line at)) true s t i)
 callBy lending.Load l line at s t i = lentOut l (imageLine l (oneNumber (numbersAt line at)) false s t i)
 callBy lending.Writes l line at s t i = lentOut l (runLine l (numbersAt line at) true s t i)
 callBy lending.Nexts l line at s t i = lentOut l (runLine l (numbersAt line at) false s t i)
+callBy lending.Up l line at s t i = movedOut l s t (moveLine l (numbersAt line at) true i)
+callBy lending.Down l line at s t i = movedOut l s t (moveLine l (numbersAt line at) false i)
 callBy lending.Unknown l line at s t i =
     let called = lentCall l line s t in
     out (answering (called .reply) l) (called .cells .store) (called .cells .tables) i

@@ -29,7 +29,8 @@ use Rattle.history_buffers.specs.Buffers.{answering, lentOf, Tested, testing, t
 use Rattle.history_lent.specs.Rooms.{imageBuffer, listBuffer, lastImage, lastList, othersLength, firstImage, firstList, imageStart, listStart, lending}
 use Rattle.history_lent.specs.Images.{imageLine}
 use Rattle.history_lent.specs.Lists.{runLine}
-use Rattle.history_desk.specs.Desk.{lentCall, Out, out, lentOut, callBy, callLine, otherTest, imageTest, listTest, onBuffer, testLine, lineFrom, spokenOut, lineOut}
+use Rattle.history_lent.specs.Moves.{moving, moveLine}
+use Rattle.history_desk.specs.Desk.{lentCall, Out, out, lentOut, movedOut, callBy, callLine, otherTest, imageTest, listTest, onBuffer, testLine, lineFrom, spokenOut, lineOut}
 
 module _ (l s t : List ℕ) where
   -- ---- a call on what is lent of store and tables
@@ -74,6 +75,15 @@ module _ (l s t : List ℕ) where
       pub nexts-line : lending r s′ t′ i′ ≡ runLine l ns false s t i → out (answering r l) s′ t′ i′ ≡ callBy ofLent.Nexts l line at s t i
       unfolding lending
       nexts-line p = ap (lentOut l) (p ∙ ap (λ z. runLine l z false s t i) en)
+
+    module _ (ns : Numbers) (en : ns ≡ numbersAt line at) (r : Reply) (i′ : List ℕ) where
+      pub ups-line : moving r i′ ≡ moveLine l ns true i → out (answering r l) s t i′ ≡ callBy ofLent.Up l line at s t i
+      unfolding moving
+      ups-line p = ap (movedOut l s t) (p ∙ ap (λ z. moveLine l z true i) en)
+
+      pub downs-line : moving r i′ ≡ moveLine l ns false i → out (answering r l) s t i′ ≡ callBy ofLent.Down l line at s t i
+      unfolding moving
+      downs-line p = ap (movedOut l s t) (p ∙ ap (λ z. moveLine l z false i) en)
 
     pub calls-line : (r : Reply) (s′ t′ : List ℕ) → told r (lent s′ t′) ≡ lentCall l line s t → out (answering r l) s′ t′ i ≡ callBy ofLent.Unknown l line at s t i
     unfolding told
@@ -174,7 +184,7 @@ module _ (l s t i : List ℕ) where
 
 pub ruleset lent-calls = (call-lent)
 
-pub ruleset call-lines = (saves-line, loads-line, writes-line, nexts-line, calls-line, call-read)
+pub ruleset call-lines = (saves-line, loads-line, writes-line, nexts-line, ups-line, downs-line, calls-line, call-read)
 
 pub ruleset other-tests = (no-others, other-there, no-image, image-there, no-list, list-there)
 

@@ -47,6 +47,8 @@ fn call_line(
         OfLent::Nexts => {
             history_lent::lists::run_line(store, tables, others, lengths, numbers, false)
         }
+        OfLent::Up => history_lent::moves::move_line(others, lengths, numbers, true),
+        OfLent::Down => history_lent::moves::move_line(others, lengths, numbers, false),
         OfLent::Unknown => call(store, tables, lengths, line),
     }
 }

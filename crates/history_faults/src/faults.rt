@@ -1,4 +1,5 @@
-// Where a line departs from its form: the first word that is wrong, from left to right; then a word too many; then what is not there.
+// Where a line departs from its form: the first word that is wrong, from left to right; then a word too many; then what is not there, or is lent twice.
+use crate::beyond::first_beyond;
 use crate::numbers::number_fault;
 use crate::numbers::signed_fault;
 use crate::parts::Part;
@@ -19,6 +20,7 @@ pub enum Fault {
     Word, // a word after the last field
     Space, // a space after the last field
     Beyond, // an image, a list, a cell or a length that is not there
+    Twice, // one image where two are lent
 }
 
 // A fault, and the field of the form that it is about; no bytes where it is about none.
@@ -67,38 +69,8 @@ fn fault_at(form: &[u8], field: Part, line: &[u8], word: Part) -> Fault
     word_fault(&form[field_from..field_to], &line[word_from..word_to])
 }
 
-// Whether not every number is there.
-fn is_limited(field: &[u8]) -> bool {
-    if history_words::same(field, b"IMAGE") {
-        return true;
-    }
-    if history_words::same(field, b"LIST") {
-        return true;
-    }
-    if history_words::same(field, b"LENGTH") {
-        return true;
-    }
-    history_words::same(field, b"CELL")
-}
-
-// The first such field of a form.
-fn first_limited(form: &[u8]) -> Part
-    ensures { λ r. ⌜ Within r (length (now (form .entry))) ⌝ }
-{
-    let mut at = history_words::word_end(form, 0);
-    while at < form.len() {
-        let field = word_after(form, at);
-        let from = field.from;
-        let to = field.to;
-        if is_limited(&form[from..to]) {
-            return field;
-        }
-        at = to;
-    }
-    Part { from: 0, to: 0 }
-}
-
-// Every field has its word: what follows the last is too much, and if nothing does, something is not there.
+// Every field has its word: what follows the last is too much; if nothing does, something is not there, and if all is there, one
+// image is named twice.
 fn departure_at_end(form: &[u8], line: &[u8], at: usize) -> Departure
     ensures { λ r. ⌜ Within (r .field) (length (now (form .entry))) ⌝ }
 {
@@ -115,9 +87,16 @@ fn departure_at_end(form: &[u8], line: &[u8], at: usize) -> Departure
             field: Part { from: 0, to: 0 },
         };
     }
+    let field = first_beyond(form, line);
+    if field.to == 0 {
+        return Departure {
+            fault: Fault::Twice,
+            field,
+        };
+    }
     Departure {
         fault: Fault::Beyond,
-        field: first_limited(form),
+        field,
     }
 }
 

@@ -4,10 +4,12 @@ use crate::parts::Part;
 ghost use lib.ListN.{length};
 ghost use Rattle.history_faults.specs.Parts.{Within};
 
-pub const FORMS: [u8; 735] = *b"fresh; \
+pub const FORMS: [u8; 785] = *b"fresh; \
     tidy; \
     save IMAGE; \
     load IMAGE; \
+    up IMAGE INTO SEGMENTS; \
+    down IMAGE INTO SEGMENTS; \
     free USER; \
     new USER ENTRY SPECIES; \
     work USER ENTRY NAME; \

@@ -4,6 +4,7 @@ pub mod text; // bytes put into a text
 mod parts; // words by their places
 mod forms; // the form of every line
 mod numbers; // what is wrong with a number
+mod beyond; // what is not there
 mod faults; // where a line departs from its form
 
 use faults::Fault;
@@ -36,6 +37,7 @@ fn say_fault(text: &mut [u8], at: usize, fault: Fault) -> usize {
         Fault::Word => append(text, at, b"a word too many"),
         Fault::Space => append(text, at, b"a space too many"),
         Fault::Beyond => append(text, at, b" is beyond what is there"),
+        Fault::Twice => append(text, at, b"one image is named twice"),
     }
 }
 

@@ -12,6 +12,7 @@ ghost use Rattle.history_lent.specs.Rooms.{lending};
 
 pub mod sizes; // the sizes of the buffers
 pub mod lists; // runs, which are lent a list
+pub mod moves; // moves from one form to the other, which are lent two images alone
 
 // Save to image buffer k, or load from it.
 fn image_call(

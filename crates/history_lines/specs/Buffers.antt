@@ -1,4 +1,4 @@
--- The words of the lines that are no calls, the names of buffers, and the words of the calls that are lent one more, spelt as bytes. Assumes nothing.
+-- The words of the lines that are no calls, the names of buffers, and the words of the calls that are lent images or lists, spelt as bytes. Assumes nothing.
 use Prim.Native.Nat.{ℕ}
 use mathlib.Core.List.{List, [], _∷_}
 use Rattle.history_lines.specs.declared.OfBuffer.{OfBuffer}
@@ -41,7 +41,7 @@ bufferNames =
     (108 ∷ 105 ∷ 115 ∷ 116 ∷ 49 ∷ [], Buffer.List 1)
     ∷ []
 
--- the calls that are lent one buffer more
+-- the calls that are lent images or lists
 abbrev pub lentWords : List (List ℕ × OfLent)
 lentWords =
     -- save
@@ -52,4 +52,8 @@ lentWords =
     (119 ∷ 114 ∷ 105 ∷ 116 ∷ 101 ∷ 115 ∷ [], OfLent.Writes)
     ∷  -- nexts
     (110 ∷ 101 ∷ 120 ∷ 116 ∷ 115 ∷ [], OfLent.Nexts)
+    ∷  -- up
+    (117 ∷ 112 ∷ [], OfLent.Up)
+    ∷  -- down
+    (100 ∷ 111 ∷ 119 ∷ 110 ∷ [], OfLent.Down)
     ∷ []

@@ -1,4 +1,4 @@
-// The words of the lines that are no calls, the names of buffers, and the words of the calls that are lent one more.
+// The words of the lines that are no calls, the names of buffers, and the words of the calls that are lent images or lists.
 ghost use mathlib.Core.Path.{_≡_};
 ghost use Rattle.history_lines.specs.Spelling.{found};
 ghost use Rattle.history_lines.specs.Buffers.{bufferWords, bufferNames, lentWords};
@@ -72,6 +72,12 @@ pub fn of_lent_word(word: &[u8]) -> OfLent
     }
     if history_words::same(word, b"nexts") {
         return OfLent::Nexts;
+    }
+    if history_words::same(word, b"up") {
+        return OfLent::Up;
+    }
+    if history_words::same(word, b"down") {
+        return OfLent::Down;
     }
     OfLent::Unknown
 }

@@ -64,12 +64,14 @@ pub enum Buffer {
     Unknown,
 }
 
-// The words of the calls to which a buffer is lent beside store and tables: an image, or a list for a run.
+// The words of the calls to which a buffer is lent beside store and tables, an image, or a list for a run; and of those that are lent two images alone.
 pub enum OfLent {
     Save,
     Load,
     Writes,
     Nexts,
+    Up,
+    Down,
     Unknown,
 }
 

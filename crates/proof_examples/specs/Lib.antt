@@ -3,5 +3,6 @@ pub mod Fresh
 pub mod OnSegments
 pub mod Known
 pub mod Saved
+pub mod Moved
 pub mod Tidied
 pub mod Worked

@@ -19,10 +19,13 @@ use Rattle.segments.specs.Free.{SegmentRecord, SegmentHouse}
 use Rattle.segments.specs.Moves.{isListed, listedCount, tidyCount}
 use Rattle.examples.specs.Holding.{Holds, AllHold}
 use Rattle.image.specs.Image.{form1, served}
-use Rattle.examples.specs.Examples.{lift7, lift, ten, notCut, claims, lastClaim, appends, ownPointer, savedFresh, bytesOfA, makesFileA, imageWithA, savedFile, printedFresh, printedFile, givenUp, runsAnswered, runsTold, startsAtTheEnd, bytesOfB, looksAbsent, removesA, tidies, degrees, worked}
+use Rattle.examples.specs.Examples.{lift7, lift, ten, notCut, claims, lastClaim, appends, ownPointer, savedFresh, bytesOfA, makesFileA, imageWithA, savedFile, printedFresh, oldImageWithA, printedFile, movedUp, movedDown, givenUp, runsAnswered, runsTold, startsAtTheEnd, bytesOfB, looksAbsent, removesA, tidies, degrees, worked}
 use Rattle.proof_examples.specs.OnSegments.{stateAfter}
 use Rattle.proof_examples.specs.Known.{answersKnown, answers-after, gives-after, runsKnown, runs-after}
 use Rattle.proof_examples.specs.Saved.{imageBy, Leads, packs-after, saves-after}
+use Rattle.proof_examples.specs.Moved.{reachesBy, moves-down, moves-up, cells-of}
+use Rattle.demands.specs.Demands.{AreCells}
+use Rattle.combine.specs.Below.{allBelow}
 use Rattle.proof_examples.specs.Tidied.{answers-tidied}
 
 -- ---- numbers
@@ -126,12 +129,28 @@ packed-a = refl
 pub saved-file-holds : Holds savedFile
 saved-file-holds = saves-after (segmentCells * 128) makesFileA houseWithA imageWithA refl leads-to-a packed-a
 
-printed-a : imageBy form1 houseWithA ≡ 0x01100000 ∷ 0x95FFFFFF ∷ 0xFFFFFFFF ∷ 0xFFAD0000 ∷ 0x01000002 ∷ replicate 892 0
+printed-a : imageBy form1 houseWithA ≡ oldImageWithA
 unfolding imageBy stateAfter
 printed-a = refl
 
 printed-file-holds : Holds printedFile
 printed-file-holds = packs-after (segmentCells * 128) makesFileA houseWithA _ refl leads-to-a form1 printed-a
+
+-- ---- moved from form to form
+
+in-reach : reachesBy form1 houseWithA ≡ true
+unfolding reachesBy stateAfter
+in-reach = refl
+
+moved-down-holds : Holds movedDown
+moved-down-holds = moves-down 128 makesFileA houseWithA imageWithA oldImageWithA refl leads-to-a refl in-reach saved-file-holds printed-file-holds
+
+image-cells : AreCells imageWithA
+unfolding allBelow
+image-cells = cells-of imageWithA refl
+
+moved-up-holds : Holds movedUp
+moved-up-holds = moves-up 128 imageWithA oldImageWithA image-cells moved-down-holds
 
 -- ---- tidied: "b" of user 2 is at place 1, in segment 1
 
@@ -155,4 +174,4 @@ tidies-holds = answers-tidied (segmentCells * 3) removesA _ houseWithB refl lead
 
 pub worked-hold : AllHold worked
 worked-hold =
-    (lift7-holds, (lift-holds, (ten-holds, (not-cut-holds, (claims-holds, (last-claim-holds, (appends-holds, (own-pointer-holds, (saved-fresh-holds, (saved-file-holds, (printed-fresh-holds, (printed-file-holds, (given-up-holds, (runs-answered-holds, (runs-told-holds, (starts-at-the-end-holds, (looks-absent-holds, (tidies-holds, (degrees-hold, tt)))))))))))))))))))
+    (lift7-holds, (lift-holds, (ten-holds, (not-cut-holds, (claims-holds, (last-claim-holds, (appends-holds, (own-pointer-holds, (saved-fresh-holds, (saved-file-holds, (printed-fresh-holds, (printed-file-holds, (moved-up-holds, (moved-down-holds, (given-up-holds, (runs-answered-holds, (runs-told-holds, (starts-at-the-end-holds, (looks-absent-holds, (tidies-holds, (degrees-hold, tt)))))))))))))))))))))

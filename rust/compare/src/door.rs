@@ -4,7 +4,8 @@
 use crate::buffer::Buffer;
 use crate::line::{Buffers, Line, CALLS};
 use crate::reply::Reply;
-use dorrivand::{Refusal, Store};
+use dorrivand::{forms, Refusal, Store};
+use std::mem;
 
 pub const LIST_CELLS: usize = 2_112;
 
@@ -22,7 +23,8 @@ pub struct Door {
 struct Lent<'a> {
     store: &'a mut [u32],
     tables: &'a mut [u32],
-    image: &'a mut [u32],
+    /// The image that the call names, and the one that a move writes.
+    images: [&'a mut [u32]; 2],
     list: &'a mut [u32],
 }
 
@@ -59,18 +61,22 @@ impl Door {
         }
     }
 
-    /// Only a save and a load name an image, and only a run names a list; the others are not lent them.
-    fn lent(&mut self, call: &str, numbers: [u32; 4]) -> Lent<'_> {
-        let (image, list) = match call {
-            "save" | "load" => (numbers[0], 0),
-            "writes" | "nexts" => (0, numbers[3]),
-            _ => (0, 0),
-        };
+    /// A save and a load name an image, a move names two, and a run names a list; the others are not lent them.
+    fn lent(&mut self, call: &str, [first, second, _, fourth]: [u32; 4]) -> Lent<'_> {
+        let mut images: Vec<&mut [u32]> = self.images.iter_mut().map(Buffer::lent).collect();
+        let mut image = |number: u32| mem::take(&mut images[number as usize]);
         Lent {
             store: self.store.lent(),
             tables: self.tables.lent(),
-            image: self.images[image as usize].lent(),
-            list: self.lists[list as usize].lent(),
+            images: match call {
+                "save" | "load" => [image(first), Default::default()],
+                "up" | "down" => [image(first), image(second)],
+                _ => Default::default(),
+            },
+            list: match call {
+                "writes" | "nexts" => self.lists[fourth as usize].lent(),
+                _ => Default::default(),
+            },
         }
     }
 
@@ -92,13 +98,16 @@ impl Door {
 fn perform_apart(call: &str, numbers: [u32; 4], name: &[u8], lent: Lent) -> Reply {
     let copy = |cells: &[u32]| cells.to_vec().into_boxed_slice();
     let (mut store, mut tables) = (copy(lent.store), copy(lent.tables));
-    let (mut image, mut list) = (copy(lent.image), copy(lent.list));
+    let [image, other] = lent.images;
+    let (mut image_copy, mut other_copy, mut list) = (copy(image), copy(other), copy(lent.list));
     let name = name.to_vec().into_boxed_slice();
-    let copies = Lent { store: &mut store, tables: &mut tables, image: &mut image, list: &mut list };
+    let images = [&mut image_copy[..], &mut other_copy[..]];
+    let copies = Lent { store: &mut store, tables: &mut tables, images, list: &mut list };
     let reply = perform(call, numbers, &name, copies);
     lent.store.copy_from_slice(&store);
     lent.tables.copy_from_slice(&tables);
-    lent.image.copy_from_slice(&image);
+    image.copy_from_slice(&image_copy);
+    other.copy_from_slice(&other_copy);
     lent.list.copy_from_slice(&list);
     reply
 }
@@ -118,7 +127,7 @@ fn perform(call: &str, numbers: [u32; 4], name: &[u8], lent: Lent) -> Reply {
         }
         "next_signed" => Reply::Single(store.next_signed(user, entry, pointer).map(i64::from)),
         "prev_signed" => Reply::Single(store.prev_signed(user, entry, pointer).map(i64::from)),
-        _ => Reply::Single(perform_single(call, numbers, name, &mut store, lent.image).map(i64::from)),
+        _ => Reply::Single(perform_single(call, numbers, name, &mut store, lent.images).map(i64::from)),
     }
 }
 
@@ -127,7 +136,7 @@ fn perform_single(
     [user, entry, third, fourth]: [u32; 4],
     name: &[u8],
     store: &mut Store,
-    image: &mut [u32],
+    [image, other]: [&mut [u32]; 2],
 ) -> Result<u32, Refusal> {
     // "N being 0 where document 01 gives the answer no number".
     let nothing = |answer: Result<(), Refusal>| answer.map(|()| 0);
@@ -135,6 +144,8 @@ fn perform_single(
         "fresh" => nothing(store.fresh_start()),
         "save" => nothing(store.save(image)),
         "load" => nothing(store.load(image)),
+        "up" => nothing(forms::up(image, other, third)),
+        "down" => nothing(forms::down(image, other, third)),
         "tidy" => store.tidy(),
         "free" => store.free_segments(user),
         "new" => nothing(store.open_new(user, entry, third)),

@@ -8,6 +8,8 @@ pub const REFUSALS: [&[u32]; CALLS.len()] = [
     &[20],                          // fresh
     &[20, 22],                      // save
     &[20, 22],                      // load
+    &[22],                          // up
+    &[22, 24],                      // down
     &[20, 14],                      // tidy
     &[20, 1],                       // free
     &[20, 1, 2, 3, 19],             // new

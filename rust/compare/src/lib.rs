@@ -9,6 +9,7 @@ pub mod pair;
 pub mod random;
 pub mod reply;
 pub mod shorten;
+pub mod spoiling;
 pub mod stories;
 pub mod tally;
 pub mod teller;

@@ -1,12 +1,14 @@
-//! A line of a history, taken apart. The forms are those of `second/`'s text: "work U E NAME", "writes U E P L", ..
+//! A line of a history, taken apart. The forms are those of `second/`'s text: "work U E NAME", "up I J N", ..
 
 use std::str::FromStr;
 
 /// The calls, by the first word of their lines.
-pub const CALLS: [&str; 30] = [
+pub const CALLS: [&str; 32] = [
     "fresh",
     "save",
     "load",
+    "up",
+    "down",
     "tidy",
     "free",
     "new",
@@ -141,15 +143,16 @@ mod tests {
     #[test]
     fn calls_and_changes() {
         assert_eq!(Line::read(b"fresh"), Some(Line::Call(0, [0; 4], b"")));
-        assert_eq!(Line::read(b"tidy"), Some(Line::Call(3, [0; 4], b"")));
-        assert_eq!(Line::read(b"write 1 2 3 4294967295"), Some(Line::Call(15, [1, 2, 3, u32::MAX], b"")));
-        assert_eq!(Line::read(b"write_signed 1 2 3 -5"), Some(Line::Call(18, [1, 2, 3, -5_i32 as u32], b"")));
-        assert_eq!(Line::read(b"write_signed 1 2 3 32768"), Some(Line::Call(18, [1, 2, 3, 32_768], b"")));
+        assert_eq!(Line::read(b"tidy"), Some(Line::Call(5, [0; 4], b"")));
+        assert_eq!(Line::read(b"down 3 1 4294967295"), Some(Line::Call(4, [3, 1, u32::MAX, 0], b"")));
+        assert_eq!(Line::read(b"write 1 2 3 4294967295"), Some(Line::Call(17, [1, 2, 3, u32::MAX], b"")));
+        assert_eq!(Line::read(b"write_signed 1 2 3 -5"), Some(Line::Call(20, [1, 2, 3, -5_i32 as u32], b"")));
+        assert_eq!(Line::read(b"write_signed 1 2 3 32768"), Some(Line::Call(20, [1, 2, 3, 32_768], b"")));
         assert_eq!(Line::read(b"write 1 2 3 -5"), None);
-        assert_eq!(Line::read(b"prev_signed 1 2 3"), Some(Line::Call(20, [1, 2, 3, 0], b"")));
-        assert_eq!(Line::read(b"nexts 1 2 3 1"), Some(Line::Call(22, [1, 2, 3, 1], b"")));
-        assert_eq!(Line::read(b"work 1 2 a \n b"), Some(Line::Call(6, [1, 2, 0, 0], b"a \n b")));
-        assert_eq!(Line::read(b"rename 1 2"), Some(Line::Call(8, [1, 2, 0, 0], b"")));
+        assert_eq!(Line::read(b"prev_signed 1 2 3"), Some(Line::Call(22, [1, 2, 3, 0], b"")));
+        assert_eq!(Line::read(b"nexts 1 2 3 1"), Some(Line::Call(24, [1, 2, 3, 1], b"")));
+        assert_eq!(Line::read(b"work 1 2 a \n b"), Some(Line::Call(8, [1, 2, 0, 0], b"a \n b")));
+        assert_eq!(Line::read(b"rename 1 2"), Some(Line::Call(10, [1, 2, 0, 0], b"")));
         assert_eq!(Line::read(b"lend tables 4993"), Some(Line::Lend(Buffers::Tables, 4993)));
         assert_eq!(Line::read(b"poke image3 5 6"), Some(Line::Poke(Buffers::Image(3), 5, 6)));
         assert_eq!(Line::read(b"poke list1 5 6"), Some(Line::Poke(Buffers::List(1), 5, 6)));

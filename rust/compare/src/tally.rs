@@ -3,9 +3,10 @@
 use crate::law::{MIDWAY, OF_EMPTY_LISTS, REFUSALS};
 use crate::line::{call, CALLS};
 use crate::reply::Reply;
+use crate::spoiling::{Spoiling, SPOILINGS};
 use dorrivand::{pointer, Refusal};
 
-const OUTCOMES: usize = 24;
+const OUTCOMES: usize = 25;
 
 /// Whether a call with these numbers and this reply shows something that its outcome does not.
 type Shows = fn([u32; 4], &Reply) -> bool;
@@ -20,20 +21,6 @@ const TELLING: [(&str, &str, Shows); 9] = [
     ("begin", "of 4,294,967,295", is_the_greatest_end),
     ("end", "of 4,294,967,295", is_the_greatest_end),
     ("value", "of 4,294,967,295", is_the_greatest_end),
-];
-
-/// What a load refuses in an image that is sound but for it.
-#[derive(Clone, Copy)]
-pub enum Spoiling {
-    SpareBit,
-    Form1,
-    OldLength,
-}
-
-pub const SPOILINGS: [(Spoiling, &str); 3] = [
-    (Spoiling::SpareBit, "a bit set at a record's end"),
-    (Spoiling::Form1, "form number 1"),
-    (Spoiling::OldLength, "897 cells"),
 ];
 
 fn is_below_zero(_: [u32; 4], reply: &Reply) -> bool {
@@ -59,7 +46,7 @@ pub struct Tally {
     empty: [[u64; OUTCOMES]; CALLS.len()],
     /// Calls that showed more, in the order of `TELLING`.
     telling: [u64; TELLING.len()],
-    /// Loads that were refused for nothing but this, by `Spoiling`.
+    /// Calls that were refused for one thing alone, in the order of `SPOILINGS`.
     spoiled: [u64; SPOILINGS.len()],
 }
 
@@ -74,8 +61,10 @@ impl Tally {
         }
     }
 
-    pub fn count_spoiled(&mut self, spoiling: Spoiling) {
-        self.spoiled[spoiling as usize] += 1;
+    pub fn count_spoiled(&mut self, call: &str, spoiling: Spoiling) {
+        for (count, (word, what, _)) in self.spoiled.iter_mut().zip(SPOILINGS) {
+            *count += u64::from((word, what) == (call, spoiling));
+        }
     }
 
     pub fn calls(&self) -> u64 {
@@ -135,8 +124,8 @@ impl Tally {
         for ((word, what, _), count) in TELLING.iter().zip(self.telling) {
             sights.push((format!("{word} {what}"), count));
         }
-        for (spoiling, what) in SPOILINGS {
-            sights.push((format!("load refused for {what} alone"), self.spoiled[spoiling as usize]));
+        for ((word, _, what), count) in SPOILINGS.iter().zip(self.spoiled) {
+            sights.push((format!("{word} refused for {what} alone"), count));
         }
         sights
     }

@@ -6,11 +6,13 @@ use compare::line::{call, CALLS};
 use std::fs;
 use std::path::Path;
 
-/// The crate's methods, in the order of `CALLS`.
+/// The crate's methods and functions, in the order of `CALLS`.
 const METHODS: [&str; CALLS.len()] = [
     "fresh_start",
     "save",
     "load",
+    "up",
+    "down",
     "tidy",
     "free_segments",
     "open_new",
@@ -62,7 +64,8 @@ fn first_numbers(list: &str) -> Vec<u32> {
 
 #[test]
 fn in_the_headers() {
-    let text = ["dorrivand.h", "dorrivand_signed.h"].map(|name| text_of(&format!("../../include/{name}"))).concat();
+    let headers = ["dorrivand.h", "dorrivand_forms.h", "dorrivand_signed.h"];
+    let text = headers.map(|name| text_of(&format!("../../include/{name}"))).concat();
     for part in text.split("Refusals: ").skip(1) {
         let (list, rest) = part.split_once("*/").expect("the comment ends");
         let (_, name) = rest.split_once(" dorrivand_").expect("a declaration follows");
@@ -80,10 +83,11 @@ fn in_the_headers() {
 #[test]
 fn in_the_crate() {
     let files = ["access", "closing", "inquiries", "opening", "operator", "pointers", "runs", "signed"];
-    let text: String = files.iter().map(|file| text_of(&format!("../src/calls/{file}.rs"))).collect();
+    let methods: String = files.iter().map(|file| text_of(&format!("../src/calls/{file}.rs"))).collect();
+    let text = methods + &text_of("../src/forms.rs");
     for part in text.split("# Errors").skip(1) {
         let (list, rest) = part.split_once("```").expect("an example follows");
-        let (_, name) = rest.split_once("pub fn ").expect("a method follows");
+        let (_, name) = rest.split_once("pub fn ").expect("a function follows");
         let (name, _) = name.split_once(['(', '<']).expect("with arguments");
         let call = METHODS.iter().position(|&method| method == name).unwrap_or_else(|| panic!("{name} is no call"));
         // Here a refusal's number stands in parentheses.

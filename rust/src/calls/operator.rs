@@ -57,8 +57,8 @@ impl Store<'_> {
     /// Takes the records and the number of segments from an image; nothing is open afterwards. It does not look at
     /// what the tables held. The elements are those that the store's cells hold now.
     ///
-    /// An image that a library before version 7 saved, 897 cells of form 1, is refused; tables that it left are good as they
-    /// are.
+    /// An image that a library before version 7 saved is refused until it is [moved up](crate::forms::up); tables that such a
+    /// library left are good as they are.
     ///
     /// # Errors
     ///

@@ -4,6 +4,7 @@
 pub mod access;
 pub mod closing;
 pub mod inquiries;
+pub mod moving;
 pub mod opening;
 pub mod pointers;
 pub mod runs;

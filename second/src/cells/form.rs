@@ -1,5 +1,5 @@
-//! The form of a catalogue image, described once: which numbers stand in it, and in how many bits each, "bit-packed, most
-//! significant first".
+//! The two forms of a catalogue image, described once: which numbers stand in it, and in how many bits each, "bit-packed,
+//! most significant first".
 
 use super::bits::{packed, unpacked};
 use super::fields::record as of_record;
@@ -8,7 +8,8 @@ use std::ops::Range;
 
 /// "Cell 0: form 8 bits ..., number of segments 11 bits, 13 zero bits."
 const HEADING_CELLS: usize = 1;
-const HEADING_BITS: [u32; 3] = [8, 11, 13];
+pub const HEADING_ZERO_BITS: u32 = 13;
+const HEADING_BITS: [u32; 3] = [8, 11, HEADING_ZERO_BITS];
 
 /// "used 1, name 12 x 6, owner 3, private 1, species 3, begin ..., end ..., then 32 segment numbers of 10 bits by rising
 /// stretch."
@@ -30,6 +31,9 @@ pub struct Form {
     /// The zero bits at a record's end.
     pub spare_bits: u32,
 }
+
+/// Document 01: "897 cells", "form 8 bits (1)", "begin 24, end 24", and no bits after the segment numbers.
+pub const FORM_1: Form = Form { number: 1, bound_bits: 24, spare_bits: 0 };
 
 /// Document 02: "Image form 2 has begin and end of 32 bits each and 16 zero bits at a record's end: 480 bits, 961 cells in
 /// all, form number 2 in cell 0."
@@ -102,6 +106,11 @@ impl Form {
         }
     }
 
+    /// The greatest number that there are bits for in one of a record's fifty.
+    pub fn greatest(&self, field: usize) -> u32 {
+        u32::MAX >> (u32::BITS - self.field_bits(field))
+    }
+
     /// The bits of all numbers of a record, and of what follows them.
     fn widths(&self) -> Vec<u32> {
         let fields = (0..of_record::COUNT).map(|field| self.field_bits(field));
@@ -127,33 +136,53 @@ mod tests {
     use super::*;
 
     #[test]
-    fn the_sizes_of_form_2() {
-        assert_eq!(FORM_2.widths().iter().sum::<u32>(), FORM_2.record_bits());
-        assert_eq!((FORM_2.record_bits(), FORM_2.record_cells(), FORM_2.length()), (480, 15, 961));
-        assert_eq!(FORM_2.cells_of(PLACES - 1).end, FORM_2.length());
+    fn the_sizes_of_both_forms() {
+        for (form, bits, cells, length) in [(FORM_1, 448, 14, 897), (FORM_2, 480, 15, 961)] {
+            assert_eq!(form.widths().iter().sum::<u32>(), form.record_bits());
+            assert_eq!((form.record_bits(), form.record_cells(), form.length()), (bits, cells, length));
+            assert_eq!(form.cells_of(PLACES - 1).end, form.length());
+        }
         assert_eq!(HEADING_BITS.iter().sum::<u32>(), u32::BITS);
     }
 
     #[test]
-    fn a_record_there_and_back() {
-        let mut numbers = [0; of_record::COUNT];
-        for (field, number) in numbers.iter_mut().enumerate() {
-            let greatest = u32::MAX >> (u32::BITS - FORM_2.field_bits(field));
-            *number = (field as u32).wrapping_mul(2_654_435_761) & greatest;
-        }
-        for spare in [0, 1, 0x8000, 0xFFFF] {
-            let record = RecordBits { numbers, spare };
-            let cells = FORM_2.packed_record(&record);
-            assert_eq!(cells.len(), FORM_2.record_cells());
-            assert_eq!(cells[14] & 0xFFFF, spare);
-            assert_eq!(FORM_2.unpacked_record(&cells), record);
+    fn the_greatest_bounds() {
+        for bound in [of_record::BEGIN, of_record::END] {
+            assert_eq!((FORM_1.greatest(bound), FORM_2.greatest(bound)), (16_777_215, 4_294_967_295));
         }
     }
 
     #[test]
+    fn a_record_there_and_back() {
+        for (form, spares) in [(FORM_1, &[0][..]), (FORM_2, &[0, 1, 0x8000, 0xFFFF])] {
+            let mut numbers = [0; of_record::COUNT];
+            for (field, number) in numbers.iter_mut().enumerate() {
+                *number = (field as u32).wrapping_mul(2_654_435_761) & form.greatest(field);
+            }
+            for &spare in spares {
+                let record = RecordBits { numbers, spare };
+                let cells = form.packed_record(&record);
+                assert_eq!(cells.len(), form.record_cells());
+                assert_eq!(form.unpacked_record(&cells), record);
+            }
+        }
+    }
+
+    #[test]
+    fn the_last_bits_of_a_record() {
+        let mut record = RecordBits::with_zero_bits([0; of_record::COUNT]);
+        record.numbers[of_record::COUNT - 1] = 0x3FF;
+        assert_eq!(FORM_1.packed_record(&record)[13], 0x0000_03FF);
+        record.spare = 0x8001;
+        assert_eq!(FORM_2.packed_record(&record)[14], 0x03FF_8001);
+    }
+
+    /// "0x02100000 first; the cells printed in 01 stay true of form 1".
+    #[test]
     fn a_heading_there_and_back() {
-        let heading = Heading { form: 2, segments: 128, zero_bits: 0 };
-        assert_eq!(heading.cell(), 0x0210_0000);
+        for (form, cell) in [(FORM_1, 0x0110_0000), (FORM_2, 0x0210_0000)] {
+            assert_eq!(Heading { form: form.number, segments: 128, zero_bits: ZERO }.cell(), cell);
+        }
         for cell in [0x0210_0000, 0x0110_0000, 0xFFFF_FFFF, 0x0080_1FFF, 0] {
             assert_eq!(Heading::of_cell(cell).cell(), cell);
         }

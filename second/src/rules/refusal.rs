@@ -29,6 +29,8 @@ pub enum Refusal {
     ImageUnfit = 22,
     // Document 02: "A number too wide for its species, or outside its range where it is signed, is now refused".
     NumberOutOfRange = 23,
+    // Document 02: "A sound form 2 image moves down exactly if every begin and end is at most 16,777,215, else refusal 24."
+    BoundsTooWide = 24,
 }
 
 impl Refusal {

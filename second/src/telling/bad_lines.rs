@@ -55,6 +55,7 @@ impl Teller {
             ("read 0 0 ", b' '),
             ("free ", b'0'),
             ("writes 0 0 1 ", b'0'),
+            ("up 0 1 ", b'0'),
             ("write_signed 0 0 1 -", b'0'),
             ("rename 1 1 a", b'b'),
             ("#", b'#'),

@@ -10,7 +10,7 @@ impl Teller {
         let salt = self.random.below(1000);
         for number in 0..90 {
             let free_places = self.free_places();
-            if free_places == 0 && self.random.chance(25) {
+            if free_places == 0 && self.random.chance(15) {
                 break;
             }
             let (user, entry) = self.a_closed_entry();

@@ -4,7 +4,7 @@ use super::arguments::text_of;
 use super::teller::Teller;
 use super::wrong_values::{kind_in_opening, kind_in_record};
 use crate::cells::fields::{self, opening as of_opening, record as of_record, TABLES_LENGTH};
-use crate::cells::image::{FORM, IMAGE_LENGTH};
+use crate::cells::image::{SAVED_FORM, SAVED_LENGTH};
 use crate::rules::sizes::PLACES;
 use crate::text::line::BufferName;
 
@@ -138,35 +138,26 @@ impl Teller {
     /// One field of a record in an image, or any bit of it.
     pub fn damage_an_image(&mut self) {
         let image = self.random.index(4);
-        let buffer = BufferName::Image(image);
         if self.random.chance(75) {
             self.say(format!("save {}", image));
         }
-        let before: Vec<u32> = (0..IMAGE_LENGTH).map(|cell| self.cell(buffer, cell)).collect();
-        let flip = 1 << self.random.below(32);
+        let before = self.cells_before(SAVED_FORM, image);
         match self.random.weighted(&[65, 15, 20]) {
             0 => {
                 let place = self.a_used_place();
-                let mut record = FORM.unpacked_record(&before[FORM.cells_of(place)]);
-                let field = self.a_record_field();
-                let number = &mut record.numbers[field];
-                let bits_that_fit = u32::MAX >> (u32::BITS - FORM.field_bits(field));
-                *number = self.a_trial_value(kind_in_record(field), *number) & bits_that_fit;
-                self.put_into_image(image, place, &record);
+                self.try_a_field(SAVED_FORM, image, place);
             }
             1 => {
-                let cell = self.random.index(IMAGE_LENGTH);
-                self.poke(buffer, cell, before[cell] ^ flip);
+                let cell = self.random.index(SAVED_LENGTH);
+                self.flip_a_bit(image, cell);
             }
-            _ => self.poke(buffer, 0, before[0] ^ flip),
+            _ => self.flip_a_bit(image, 0),
         }
         self.say(format!("sum image{}", image));
         self.say(format!("load {}", image));
         self.look();
         if self.random.chance(50) {
-            for (cell, value) in before.into_iter().enumerate() {
-                self.poke(buffer, cell, value);
-            }
+            self.put_back(image, &before);
             self.say(format!("load {}", image));
         }
     }

@@ -2,7 +2,7 @@
 
 use super::teller::Teller;
 use crate::cells::fields::{opening_cells, TABLES_LENGTH};
-use crate::cells::image::IMAGE_LENGTH;
+use crate::cells::image::SAVED_LENGTH;
 
 impl Teller {
     pub fn make_double_faults(&mut self) {
@@ -64,12 +64,15 @@ impl Teller {
         for _ in 0..2 {
             self.run_through(user, entry, 9);
         }
+        let (user, entry) = self.a_closed_entry();
+        self.say(format!("work {} {}", user, entry));
+        self.say(format!("read {} {} ", user, entry));
     }
 
     fn save_and_load_with_two_wrong_lengths(&mut self) {
         let image = self.random.below(4);
         let cells_more = self.random.pick(&[0, 2]);
-        self.say(format!("lend image{} {}", image, IMAGE_LENGTH + cells_more - 1));
+        self.say(format!("lend image{} {}", image, SAVED_LENGTH + cells_more - 1));
         self.say(format!("lend tables {}", TABLES_LENGTH + cells_more - 1));
         self.say(format!("save {}", image));
         self.say(format!("load {}", image));
@@ -77,7 +80,7 @@ impl Teller {
         self.say(format!("lend tables {}", TABLES_LENGTH));
         self.say(format!("save {}", image));
         self.say(format!("load {}", image));
-        self.say(format!("lend image{} {}", image, IMAGE_LENGTH));
+        self.say(format!("lend image{} {}", image, SAVED_LENGTH));
     }
 
     /// An opening of no record without the permit, an image of wrong length, and calls that are wrong anyway.
@@ -85,14 +88,14 @@ impl Teller {
         let (user, entry) = (self.random.below(8), self.random.below(4));
         let permit = opening_cells(user as usize, entry as usize).start + 2;
         let image = self.random.below(4);
-        self.say(format!("lend image{} {}", image, IMAGE_LENGTH + 1));
+        self.say(format!("lend image{} {}", image, SAVED_LENGTH + 1));
         self.say(format!("poke tables {} 2", permit));
         self.say(format!("save {}", image));
         self.say("tidy");
         self.say(format!("new 8 4 {}", user));
         self.say(format!("free {}", 8 + user));
         self.run_with_and_without_elements();
-        self.say(format!("lend image{} {}", image, IMAGE_LENGTH));
+        self.say(format!("lend image{} {}", image, SAVED_LENGTH));
         self.say(format!("load {}", image));
         if self.catalogue().is_none() {
             self.start_anew();

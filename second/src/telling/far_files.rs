@@ -56,6 +56,9 @@ impl Teller {
                 }
             }
             self.say(format!("value {} {} {}", user, entry, WORK));
+            if self.random.chance(20) {
+                self.run_through(user, entry, WORK);
+            }
         }
     }
 

@@ -5,7 +5,7 @@ use super::positions::{first_position, further_on, top_stretch};
 use super::teller::Teller;
 use crate::cells::fields::{self, opening as of_opening, record as of_record};
 use crate::cells::form::RecordBits;
-use crate::cells::image::FORM;
+use crate::cells::image::SAVED_FORM;
 use crate::model::store::Segment;
 use crate::rules::name::Name;
 use crate::rules::sizes::PLACES;
@@ -24,6 +24,10 @@ impl Teller {
     /// A shape of so many free segments, at the first stretch, somewhere, or as far up as there are positions.
     pub fn a_shape(&mut self, held: usize) -> Option<Shape> {
         let species = Species::from_number(self.a_known_species())?;
+        self.a_shape_of(species, held)
+    }
+
+    pub fn a_shape_of(&mut self, species: Species, held: usize) -> Option<Shape> {
         let segments = self.some_free_segments(held);
         let held = segments.len() as u32;
         if held == 0 {
@@ -55,13 +59,15 @@ impl Teller {
         }
     }
 
-    /// The fifty numbers of a record.
-    pub fn record_of(&mut self, owner: u32, symbols: &[u32], shape: &Shape) -> [u32; of_record::COUNT] {
+    /// The fifty numbers of a record under a name that most likely no other file has.
+    pub fn a_record_of(&mut self, shape: &Shape) -> [u32; of_record::COUNT] {
+        let owner = self.random.below(8);
+        let symbols: Vec<u32> = (0..self.random.between(1, 12)).map(|_| self.random.below(36)).collect();
         let mut numbers = [0; of_record::COUNT];
         numbers[of_record::USED] = 1;
         numbers[of_record::NAME].fill(63);
         for (place, symbol) in of_record::NAME.zip(symbols) {
-            numbers[place] = *symbol;
+            numbers[place] = symbol;
         }
         numbers[of_record::OWNER] = owner;
         numbers[of_record::PRIVATE] = self.random.below(2);
@@ -83,18 +89,16 @@ impl Teller {
             self.say(format!("save {}", image));
         }
         let shape = self.a_shape(held)?;
-        let owner = self.random.below(8);
-        let symbols: Vec<u32> = (0..self.random.between(1, 12)).map(|_| self.random.below(36)).collect();
-        let numbers = self.record_of(owner, &symbols, &shape);
+        let numbers = self.a_record_of(&shape);
         let place = self.a_place();
         if by_image {
-            self.put_into_image(image, place, &RecordBits::with_zero_bits(numbers));
+            self.put_into_image(SAVED_FORM, image, place, &RecordBits::with_zero_bits(numbers));
             self.say(format!("load {}", image));
         } else {
             self.put_into_tables(place, &numbers);
         }
         let name = Name::from_symbols(&numbers[of_record::NAME]).map(|name| text_of(&name));
-        Some((owner, name.unwrap_or_default()))
+        Some((numbers[of_record::OWNER], name.unwrap_or_default()))
     }
 
     /// A place without a record, or any.
@@ -106,13 +110,6 @@ impl Teller {
         match free.is_empty() {
             true => self.random.index(PLACES),
             false => self.random.pick(&free),
-        }
-    }
-
-    /// Puts a record's bits into an image that was saved.
-    pub fn put_into_image(&mut self, image: usize, place: usize, record: &RecordBits) {
-        for (cell, value) in FORM.cells_of(place).zip(FORM.packed_record(record)) {
-            self.poke(BufferName::Image(image), cell, value);
         }
     }
 

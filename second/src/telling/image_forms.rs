@@ -1,16 +1,14 @@
 //! "Load takes a 961-cell form 2 image only": images that are sound but for their form, their length or the zero bits at a
 //! record's end, and sound ones of far positions.
 
-use super::positions::{first_position, further_on, top_stretch};
+use super::moves::Move;
+use super::positions::lifted;
 use super::teller::Teller;
 use crate::cells::fields::record as of_record;
-use crate::cells::form::{Form, Heading};
-use crate::cells::image::{image_of, FORM, IMAGE_LENGTH};
+use crate::cells::form::{Heading, FORM_1};
+use crate::cells::image::{Image, SAVED_FORM, SAVED_LENGTH};
 use crate::rules::species::Species;
 use crate::text::line::{BufferName, IMAGES};
-
-/// Document 01's form: "897 cells", "begin 24, end 24", no bits after the segment numbers.
-pub const FORM_1: Form = Form { number: 1, bound_bits: 24, spare_bits: 0 };
 
 /// More records than this are not written by hand.
 const MOST_WRITTEN: usize = 3;
@@ -46,7 +44,7 @@ impl Teller {
     }
 
     fn offer_another_form_number(&mut self, image: usize) {
-        let heading = Heading::of_cell(self.cell(BufferName::Image(image), 0));
+        let heading = self.heading_of(image);
         let form = self.random.pick(&[FORM_1.number, FORM_1.number, 0, 3, 130, 255]);
         self.load_with(image, 0, Heading { form, ..heading }.cell());
     }
@@ -57,27 +55,27 @@ impl Teller {
             true => self.a_used_place(),
             false => self.a_place(),
         };
-        let last_cell = FORM.cells_of(place).end - 1;
-        let flip = 1 << self.random.below(FORM.spare_bits);
+        let last_cell = SAVED_FORM.cells_of(place).end - 1;
+        let flip = 1 << self.random.below(SAVED_FORM.spare_bits);
         let value = self.cell(BufferName::Image(image), last_cell) ^ flip;
         self.load_with(image, last_cell, value);
     }
 
     fn offer_other_lengths(&mut self, image: usize) {
-        for length in [FORM_1.length(), IMAGE_LENGTH - 1, IMAGE_LENGTH + 1] {
-            self.say(format!("lend image{} {}", image, length));
+        for length in [FORM_1.length(), SAVED_LENGTH - 1, SAVED_LENGTH + 1] {
+            self.lend_image(image, length);
             let word = self.random.pick(&["save", "load", "load"]);
             self.say(format!("{} {}", word, image));
         }
-        self.say(format!("lend image{} {}", image, IMAGE_LENGTH));
+        self.lend_image(image, SAVED_LENGTH);
         self.say(format!("load {}", image));
     }
 
-    /// An image as it was saved before document 02 raised the limit, lent in its own length and in the new one. Where there
-    /// are many records it is that of a fresh start.
+    /// An image as it was saved before document 02 raised the limit, lent in its own length and in the new one, and moved up.
+    /// Where there are many records it is that of a fresh start.
     fn offer_form_1(&mut self, image: usize) {
         let records = self.catalogue().map_or(0, |catalogue| catalogue.records.iter().flatten().count());
-        let kept = (image + 1) % IMAGES;
+        let (kept, other) = ((image + 1) % IMAGES, (image + 2) % IMAGES);
         self.say(format!("save {}", kept));
         self.say("fresh");
         self.say(format!("save {}", image));
@@ -85,29 +83,30 @@ impl Teller {
             self.say(format!("load {}", kept));
         }
         let cells = match self.catalogue() {
-            Some(catalogue) => image_of(FORM_1, catalogue),
+            Some(catalogue) => Image::of(catalogue).cells(FORM_1),
             None => return,
         };
         for (cell, value) in cells.into_iter().enumerate() {
             self.poke(BufferName::Image(image), cell, value);
         }
-        for length in [FORM_1.length(), IMAGE_LENGTH] {
-            self.say(format!("lend image{} {}", image, length));
-            self.say(format!("load {}", image));
+        self.lend_image(image, FORM_1.length());
+        self.say(format!("load {}", image));
+        self.move_with_room(Move::up(image, other));
+        self.lend_image(image, SAVED_LENGTH);
+        for offered in [image, other, kept] {
+            self.say(format!("load {}", offered));
         }
-        self.say(format!("load {}", kept));
     }
 
     /// A record put to far positions, or one whose end is then none.
     fn lift_a_record(&mut self, image: usize) {
         let place = self.a_used_place();
-        let cells: Vec<u32> = FORM.cells_of(place).map(|cell| self.cell(BufferName::Image(image), cell)).collect();
-        let mut record = FORM.unpacked_record(&cells);
+        let mut record = self.record_in_image(SAVED_FORM, image, place);
         if record.numbers[of_record::USED] == 0 {
             return;
         }
         self.lift_bounds(&mut record.numbers);
-        self.put_into_image(image, place, &record);
+        self.put_into_image(SAVED_FORM, image, place, &record);
         self.say(format!("sum image{}", image));
         self.say(format!("load {}", image));
         self.look();
@@ -129,40 +128,5 @@ impl Teller {
             true => self.random.pick(&[0, far_begin - 1, end]),
             false => far_end,
         };
-    }
-}
-
-/// The bounds moved up by whole stretches until the last one is the top one; there the end is at most the greatest.
-fn lifted(species: Species, begin: u32, end: u32) -> (u32, u32) {
-    let up = first_position(species, top_stretch(species) - species.stretch_of(end - 1)) - 1;
-    let end = further_on(end, up);
-    (further_on(begin, up).min(end - 1), end)
-}
-
-#[cfg(test)]
-mod tests {
-    use super::*;
-
-    #[test]
-    fn the_sizes_of_form_1() {
-        assert_eq!((FORM_1.record_bits(), FORM_1.record_cells(), FORM_1.length()), (448, 14, 897));
-    }
-
-    /// "the cells printed in 01 stay true of form 1".
-    #[test]
-    fn the_heading_of_form_1() {
-        let heading = Heading { form: FORM_1.number, segments: 128, zero_bits: 0 };
-        assert_eq!(heading.cell(), 0x0110_0000);
-    }
-
-    #[test]
-    fn lifted_bounds_hold_as_many_stretches() {
-        for (number, begin, end) in [(5, 1, 2), (5, 64, 66), (5, 64, 65), (0, 2048, 2050), (6, 1, 129), (3, 200, 300)] {
-            let species = Species::from_number(number).expect("0 to 6");
-            let (lifted_begin, lifted_end) = lifted(species, begin, end);
-            let held = species.held_stretches(lifted_begin, lifted_end);
-            assert_eq!(held.len(), species.held_stretches(begin, end).len());
-            assert_eq!(held.end, top_stretch(species) + 1);
-        }
     }
 }

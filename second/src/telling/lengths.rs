@@ -1,9 +1,9 @@
 //! Buffers lent too short, too long, or just so.
 
-use super::image_forms::FORM_1;
 use super::teller::Teller;
 use crate::cells::fields::TABLES_LENGTH;
-use crate::cells::image::IMAGE_LENGTH;
+use crate::cells::form::FORM_1;
+use crate::cells::image::SAVED_LENGTH;
 
 impl Teller {
     pub fn lend_wrong_lengths(&mut self) {
@@ -35,7 +35,7 @@ impl Teller {
     }
 
     fn lend_an_image_wrong(&mut self) {
-        let one = IMAGE_LENGTH as u32;
+        let one = SAVED_LENGTH as u32;
         let image = self.random.below(4);
         let length = self.random.pick(&[one - 1, one + 1, 0, 1_024, FORM_1.length() as u32]);
         self.say(format!("lend image{} {}", image, length));

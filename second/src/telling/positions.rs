@@ -5,8 +5,8 @@ use super::teller::Teller;
 use crate::rules::sizes::GREATEST_END;
 use crate::rules::species::Species;
 
-/// Document 01's limit, which document 02 raises: nothing is refused there any more.
-const OLD_GREATEST_END: u32 = 16_777_215;
+/// Document 01's limit, which document 02 raises: nothing is refused there any more but a move to the old form.
+pub const OLD_GREATEST_END: u32 = 16_777_215;
 
 /// So many stretches of whole cells there were below it; as numbers of 18 bits, stretches so far apart are alike.
 pub const OLD_STRETCHES: u32 = 262_144;
@@ -24,6 +24,28 @@ pub fn first_position(species: Species, stretch: u32) -> u32 {
 /// A position so far on; the greatest end, which is the greatest number of a cell, where that would lie beyond it.
 pub fn further_on(position: u32, count: u32) -> u32 {
     position.saturating_add(count)
+}
+
+/// The bounds of a file that has elements, put elsewhere so that they hold as many stretches and end there. So many stretches
+/// must lie below.
+pub fn bounds_ending_at(species: Species, begin: u32, end: u32, new_end: u32) -> (u32, u32) {
+    let stretches_up_to_the_last = species.stretch_of(end - 1) - species.stretch_of(begin);
+    let first_stretch = species.stretch_of(new_end - 1) - stretches_up_to_the_last;
+    let new_begin = further_on(first_position(species, first_stretch), species.offset_of(begin));
+    // In one single stretch the begin may have come out after the end.
+    (new_begin.min(new_end - 1), new_end)
+}
+
+/// They are put up by whole stretches until the last one is the top one; there the end is at most the greatest.
+pub fn lifted(species: Species, begin: u32, end: u32) -> (u32, u32) {
+    let top = first_position(species, top_stretch(species));
+    bounds_ending_at(species, begin, end, further_on(top, species.offset_of(end - 1) + 1))
+}
+
+/// They are put down by whole stretches until the first one is the lowest there is.
+pub fn lowered(species: Species, begin: u32, end: u32) -> (u32, u32) {
+    let down = first_position(species, species.stretch_of(begin)) - 1;
+    (begin - down, end - down)
 }
 
 impl Teller {
@@ -76,6 +98,22 @@ mod tests {
             assert_eq!(top_stretch(species), top);
             assert_eq!(species.stretch_of(first_position(species, top)), top);
             assert_eq!(species.offset_of(first_position(species, top)), 0);
+        }
+    }
+
+    #[test]
+    fn bounds_elsewhere_hold_as_many_stretches() {
+        for (number, begin, end) in [(5, 1, 2), (5, 64, 66), (5, 64, 65), (0, 2048, 2050), (6, 1, 129), (3, 200, 300)] {
+            let species = Species::from_number(number).expect("0 to 6");
+            let held = |(begin, end)| species.held_stretches(begin, end);
+            let here = held((begin, end)).len() as u32;
+            assert_eq!(held(lifted(species, begin, end)).len() as u32, here);
+            assert_eq!(held(lifted(species, begin, end)).end, top_stretch(species) + 1);
+            assert_eq!(held(lowered(species, begin, end)), 0..here);
+            for new_end in OLD_GREATEST_END - 1..OLD_GREATEST_END + 4 {
+                let bounds = bounds_ending_at(species, begin, end, new_end);
+                assert_eq!((held(bounds).len() as u32, bounds.1), (here, new_end));
+            }
         }
     }
 

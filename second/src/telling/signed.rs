@@ -95,7 +95,7 @@ impl Teller {
     pub fn cross_kinds(&mut self, user: u32, entry: u32) {
         let signed = self.is_signed(user, entry);
         let wrong_kind = if signed { Kind::Plain } else { Kind::Signed };
-        for _ in 0..self.random.between(1, 4) {
+        for _ in 0..self.random.between(2, 5) {
             let pointer = self.random.pick(&[0, 1, 2, 3, 8, u32::MAX]);
             if self.random.chance(50) {
                 let number = self.a_number_for(wrong_kind, self.species_at(user, entry));
@@ -105,7 +105,7 @@ impl Teller {
                 self.say(format!("{} {} {} {}", word(plain_word, wrong_kind), user, entry, pointer));
             }
         }
-        if signed {
+        for _ in 0..if signed { 2 } else { 0 } {
             self.try_runs(user, entry);
         }
     }

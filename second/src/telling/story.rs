@@ -3,17 +3,42 @@
 use super::mode::Mode;
 use super::teller::Teller;
 
-/// How often each story is told, in the order of `tell_a_story`.
-fn weights(mode: Mode) -> [u32; 29] {
-    match mode {
-        Mode::Mixed => [16, 12, 18, 8, 8, 5, 2, 3, 4, 6, 3, 12, 3, 8, 4, 4, 5, 5, 4, 5, 6, 12, 24, 30, 7, 5, 5, 4, 5],
-        Mode::Calm => [20, 20, 24, 12, 12, 7, 2, 4, 0, 0, 0, 0, 0, 0, 0, 0, 0, 5, 0, 0, 0, 14, 18, 24, 9, 6, 0, 0, 0],
-        Mode::Small => [16, 20, 20, 8, 8, 3, 1, 10, 2, 2, 0, 3, 1, 3, 1, 1, 2, 4, 2, 1, 2, 14, 7, 18, 7, 6, 4, 3, 3],
-        Mode::Edge => [6, 4, 8, 6, 4, 2, 1, 1, 16, 20, 14, 2, 2, 2, 1, 1, 3, 4, 2, 1, 2, 8, 6, 18, 6, 4, 12, 6, 8],
-        Mode::Damage => [6, 10, 8, 3, 6, 2, 1, 1, 2, 4, 1, 36, 8, 24, 9, 9, 8, 5, 3, 3, 5, 12, 6, 18, 8, 4, 4, 12, 10],
-        Mode::Bytes => [10, 8, 8, 4, 4, 2, 1, 1, 1, 1, 1, 2, 1, 2, 1, 1, 2, 2, 1, 50, 3, 6, 6, 2, 5, 3, 2, 2, 2],
-    }
-}
+type Story = fn(&mut Teller);
+
+/// Each story, and how often it is told in each mode, in the order of `Mode::ALL`: mixed, calm, small, edge, damage, moves,
+/// bytes.
+const STORIES: [(Story, [u32; Mode::ALL.len()]); 30] = [
+    (Teller::wander, [16, 20, 16, 6, 6, 5, 10]),
+    (Teller::build, [12, 20, 20, 4, 10, 9, 8]),
+    (Teller::share, [18, 24, 20, 8, 8, 5, 8]),
+    (Teller::read_back, [8, 12, 8, 6, 3, 4, 4]),
+    (Teller::contend_for_a_record, [8, 12, 8, 4, 6, 2, 4]),
+    (Teller::use_many_pointers, [5, 7, 3, 2, 2, 1, 2]),
+    (Teller::fill_the_catalogue, [2, 2, 1, 1, 1, 1, 1]),
+    (Teller::fill_the_store, [3, 4, 10, 1, 1, 1, 1]),
+    (Teller::use_up_positions, [4, 0, 2, 16, 2, 3, 1]),
+    (Teller::open_a_forged_record, [6, 0, 2, 20, 4, 4, 1]),
+    (Teller::need_a_33rd_segment, [3, 0, 0, 14, 1, 1, 1]),
+    (Teller::damage_the_tables, [12, 0, 3, 2, 36, 2, 2]),
+    (Teller::exchange_segments, [3, 0, 1, 2, 8, 1, 1]),
+    (Teller::damage_an_image, [8, 0, 3, 2, 24, 3, 2]),
+    (Teller::make_a_twin_record, [4, 0, 1, 1, 9, 2, 1]),
+    (Teller::make_a_twin_opening, [4, 0, 1, 1, 9, 1, 1]),
+    (Teller::lend_wrong_lengths, [5, 0, 2, 3, 8, 2, 2]),
+    (Teller::save_or_load, [5, 5, 4, 4, 5, 4, 2]),
+    (Teller::poke_the_store, [4, 0, 2, 2, 3, 1, 1]),
+    (Teller::say_odd_lines, [5, 0, 1, 1, 3, 1, 50]),
+    (Teller::make_double_faults, [6, 0, 2, 2, 5, 2, 3]),
+    (Teller::use_runs, [12, 14, 14, 8, 12, 3, 6]),
+    (Teller::ask_for_namesakes, [24, 18, 7, 6, 6, 4, 6]),
+    (Teller::scatter_and_tidy, [30, 24, 18, 18, 18, 4, 2]),
+    (Teller::keep_temperatures, [8, 10, 7, 6, 8, 6, 5]),
+    (Teller::meet_wide_numbers, [5, 6, 6, 4, 4, 1, 3]),
+    (Teller::keep_a_far_file, [9, 0, 4, 12, 4, 6, 2]),
+    (Teller::offer_images, [6, 0, 3, 6, 12, 8, 2]),
+    (Teller::lie_apart, [5, 0, 3, 8, 10, 2, 2]),
+    (Teller::move_images, [14, 8, 6, 10, 16, 60, 3]),
+];
 
 /// Of a hundred stories, those before which all begins anew.
 const NEW_STARTS: u32 = 2;
@@ -31,42 +56,14 @@ impl Teller {
             self.rare_stories += 1;
             self.tell_a_rare_story();
         }
-        match self.random.weighted(&weights(self.mode)) {
-            0 => self.wander(),
-            1 => self.build(),
-            2 => self.share(),
-            3 => self.read_back(),
-            4 => self.contend_for_a_record(),
-            5 => self.use_many_pointers(),
-            6 => self.fill_the_catalogue(),
-            7 => self.fill_the_store(),
-            8 => self.use_up_positions(),
-            9 => self.open_a_forged_record(),
-            10 => self.need_a_33rd_segment(),
-            11 => self.damage_the_tables(),
-            12 => self.exchange_segments(),
-            13 => self.damage_an_image(),
-            14 => self.make_a_twin_record(),
-            15 => self.make_a_twin_opening(),
-            16 => self.lend_wrong_lengths(),
-            17 => self.save_or_load(),
-            18 => self.poke_the_store(),
-            19 => self.say_odd_lines(),
-            20 => self.make_double_faults(),
-            21 => self.use_runs(),
-            22 => self.ask_for_namesakes(),
-            23 => self.scatter_and_tidy(),
-            24 => self.keep_temperatures(),
-            25 => self.meet_wide_numbers(),
-            26 => self.keep_a_far_file(),
-            27 => self.offer_images(),
-            _ => self.lie_apart(),
-        }
+        let weights = STORIES.map(|(_, weights)| weights[self.mode as usize]);
+        let (story, _) = STORIES[self.random.weighted(&weights)];
+        story(self);
         self.look();
     }
 
     fn tell_a_rare_story(&mut self) {
-        match self.rare_stories % 15 {
+        match self.rare_stories % 16 {
             0 | 6 => self.need_a_33rd_segment(),
             1 | 7 => self.clash_with_a_name(),
             2 | 8 => self.use_many_pointers(),
@@ -81,6 +78,7 @@ impl Teller {
             11 => self.keep_a_far_file(),
             12 => self.offer_images(),
             13 => self.lie_apart(),
+            14 => self.move_images(),
             _ => self.fill_the_catalogue(),
         }
         self.look();

@@ -59,6 +59,13 @@ impl Teller {
         }
     }
 
+    /// Lends only where the buffer is not already lent so.
+    pub fn lend(&mut self, buffer: BufferName, length: usize) {
+        if self.lent(buffer) != length {
+            self.say(format!("lend {} {}", buffer_word(buffer), length));
+        }
+    }
+
     /// Free segments in random order, as many as asked for or as there are.
     pub fn some_free_segments(&mut self, count: usize) -> Vec<Segment> {
         let mut free: Vec<Segment> = match self.catalogue() {

@@ -4,6 +4,7 @@ use super::arguments::text_of;
 use super::teller::Teller;
 use crate::cells::fields::{self, opening as of_opening, record as of_record};
 use crate::cells::form::RecordBits;
+use crate::cells::image::SAVED_FORM;
 use crate::text::line::BufferName;
 
 impl Teller {
@@ -31,7 +32,7 @@ impl Teller {
         } else {
             let image = self.random.index(4);
             self.say(format!("save {}", image));
-            self.put_into_image(image, other, &RecordBits::with_zero_bits(numbers));
+            self.put_into_image(SAVED_FORM, image, other, &RecordBits::with_zero_bits(numbers));
             self.say(format!("load {}", image));
         }
         self.say("free 7");

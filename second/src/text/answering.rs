@@ -2,8 +2,9 @@
 
 use super::line::{Line, IMAGES, LISTS};
 use super::words::BadLine;
-use crate::calls::{access, closing, inquiries, opening, pointers, runs, tidying};
-use crate::cells::image::{self, IMAGE_LENGTH};
+use crate::calls::{access, closing, inquiries, moving, opening, pointers, runs, tidying};
+use crate::cells::form::{Form, FORM_1, FORM_2};
+use crate::cells::image::{catalogue_of, Image, SAVED_FORM, SAVED_LENGTH};
 use crate::cells::tables::Tables;
 use crate::model::buffer::Buffer;
 use crate::model::catalogue::Catalogue;
@@ -26,7 +27,7 @@ pub struct Desk {
 
 impl Desk {
     pub fn new() -> Desk {
-        let image = || Buffer::of_zeros(IMAGE_CELLS, IMAGE_LENGTH);
+        let image = || Buffer::of_zeros(IMAGE_CELLS, SAVED_LENGTH);
         let list = || Buffer::of_zeros(LIST_CELLS, LIST_LENT_AT_FIRST);
         Desk {
             store: Store::new(),
@@ -77,12 +78,14 @@ impl Desk {
         })
     }
 
-    /// The calls of the rules. Refusal 20 comes before all others.
+    /// The calls of the rules. Refusal 20 comes before all others; the moves of images have none.
     fn call(&mut self, line: Line) -> Answer {
         match line {
             Line::Fresh => return self.fresh(),
             Line::Save(image) => return self.save(image),
             Line::Load(image) => return self.load(image),
+            Line::Up(image, other, number) => return self.move_image(FORM_1, FORM_2, image, other, number),
+            Line::Down(image, other, number) => return self.move_image(FORM_2, FORM_1, image, other, number),
             _ => {}
         }
         let store = &mut self.store;
@@ -117,20 +120,26 @@ impl Desk {
 
     /// "Save and load: 20, then 22." A save looks at the image's length alone.
     fn save(&mut self, image: usize) -> Answer {
-        let cells = image::image_of(image::FORM, self.tables.usable(&self.store)?);
-        let buffer = &mut self.images[image];
-        if buffer.lent != IMAGE_LENGTH {
+        let saved = Image::of(self.tables.usable(&self.store)?);
+        let lent = self.images[image].lent_cells_mut();
+        if lent.len() != SAVED_LENGTH {
             return Err(Refusal::ImageUnfit);
         }
-        buffer.cells[..IMAGE_LENGTH].copy_from_slice(&cells);
+        lent.copy_from_slice(&saved.cells(SAVED_FORM));
         Ok(0)
     }
 
     fn load(&mut self, image: usize) -> Answer {
         self.tables.check_lengths(&self.store)?;
-        let said = image::catalogue_of(self.images[image].lent_cells(), &self.store);
+        let said = catalogue_of(SAVED_FORM, self.images[image].lent_cells(), &self.store);
         self.tables.say(said.map_err(|_| Refusal::ImageUnfit)?);
         Ok(0)
+    }
+
+    /// Between two buffers, as no line names one twice.
+    fn move_image(&mut self, from: Form, to: Form, image: usize, other: usize, segments_there: u32) -> Answer {
+        let cells = self.images[image].lent_cells().to_vec();
+        moving::move_image(from, to, &cells, self.images[other].lent_cells_mut(), segments_there)
     }
 
     /// Refusal 20 leaves the whole list unwritten. It cannot come later in a run, as "every call leaves sound tables

@@ -10,10 +10,11 @@ pub const IMAGES: usize = 4;
 pub const LISTS: usize = 2;
 
 /// What `help`, which is a bad line, is told.
-const HELP: &str = "fresh; save I; load I; tidy; free U; new U E S; work U E NAME; read U E NAME; rename U E NAME; \
-    close U E; public U E; abandon U E; reset U E; pointer U E P; delete U E P; write U E P X; next U E P; prev U E P; \
-    write_signed U E P X; next_signed U E P; prev_signed U E P; writes U E P L; nexts U E P L; species U E; claim U E; permit U E; begin U E; end U E; symbol U E K; value U E P; \
-    lend BUFFER N; peek BUFFER I; poke BUFFER I V; sum BUFFER";
+const HELP: &str = "fresh; save I; load I; up I J N; down I J N; tidy; free U; new U E S; work U E NAME; read U E NAME; \
+    rename U E NAME; close U E; public U E; abandon U E; reset U E; pointer U E P; delete U E P; write U E P X; next U E P; \
+    prev U E P; write_signed U E P X; next_signed U E P; prev_signed U E P; writes U E P L; nexts U E P L; species U E; \
+    claim U E; permit U E; begin U E; end U E; symbol U E K; value U E P; lend BUFFER N; peek BUFFER I; poke BUFFER I V; \
+    sum BUFFER";
 
 #[derive(Clone, Copy, PartialEq, Eq, Debug)]
 pub enum BufferName {
@@ -30,6 +31,8 @@ pub enum Line {
     Fresh,
     Save(usize),
     Load(usize),
+    Up(usize, usize, u32),
+    Down(usize, usize, u32),
     Tidy,
     Free(u32),
     New(u32, u32, u32),
@@ -59,8 +62,10 @@ impl Line {
         let (word, rest) = first_word(line);
         Ok(match word {
             b"fresh" => words(rest).map(|[]: [&[u8]; 0]| Line::Fresh)?,
-            b"save" => Line::Save(image_number(rest)?),
-            b"load" => Line::Load(image_number(rest)?),
+            b"save" => numbers(rest).and_then(|[i]| Ok(Line::Save(image_number(i)?)))?,
+            b"load" => numbers(rest).and_then(|[i]| Ok(Line::Load(image_number(i)?)))?,
+            b"up" => two_images_and_number(rest).map(|(i, j, n)| Line::Up(i, j, n))?,
+            b"down" => two_images_and_number(rest).map(|(i, j, n)| Line::Down(i, j, n))?,
             b"tidy" => words(rest).map(|[]: [&[u8]; 0]| Line::Tidy)?,
             b"free" => numbers(rest).map(|[u]| Line::Free(u))?,
             b"new" => numbers(rest).map(|[u, e, s]| Line::New(u, e, s))?,
@@ -111,11 +116,19 @@ impl Line {
 }
 
 /// "image buffer I (0 to 3)"; another one is "a buffer ... that is not there".
-fn image_number(rest: Option<&[u8]>) -> Result<usize, BadLine> {
-    let [image] = numbers(rest)?;
+fn image_number(image: u32) -> Result<usize, BadLine> {
     match usize::try_from(image) {
         Ok(image) if image < IMAGES => Ok(image),
         _ => Err(BadLine("no such image buffer")),
+    }
+}
+
+/// "A line that names one buffer twice where two are lent is a bad line."
+fn two_images_and_number(rest: Option<&[u8]>) -> Result<(usize, usize, u32), BadLine> {
+    let [image, other, number] = numbers(rest)?;
+    match (image_number(image)?, image_number(other)?) {
+        (image, other) if image != other => Ok((image, other, number)),
+        _ => Err(BadLine("one image buffer is named twice")),
     }
 }
 

@@ -3,13 +3,19 @@
 use filing::text::answering::Desk;
 
 #[allow(dead_code)]
+pub mod asked_moves;
+#[allow(dead_code)]
 pub mod bad_lines;
 #[allow(dead_code)]
 pub mod calls;
 #[allow(dead_code)]
 pub mod far;
 #[allow(dead_code)]
+pub mod images;
+#[allow(dead_code)]
 pub mod lists;
+#[allow(dead_code)]
+pub mod rows_of_bits;
 #[allow(dead_code)]
 pub mod scattered;
 

@@ -19,7 +19,7 @@ use Rattle.answers.specs.Said.{refusalNumber, said, saidSigned}
 
 -- at 12, which is never given, stands any of them
 refusalOf : ℕ → Refusal
-refusalOf n = getD (R.User ∷ R.Entry ∷ R.Open ∷ R.Pointer ∷ R.Permit ∷ R.Below ∷ R.Beyond ∷ R.Segments ∷ R.Room ∷ R.Positions ∷ R.Unknown ∷ R.User ∷ R.NoWork ∷ R.NotNow ∷ R.Empty ∷ R.Taken ∷ R.Place ∷ R.Public ∷ R.Species ∷ R.Tables ∷ R.Pointers ∷ R.Image ∷ R.Wide ∷ []) (n - 1) R.User
+refusalOf n = getD (R.User ∷ R.Entry ∷ R.Open ∷ R.Pointer ∷ R.Permit ∷ R.Below ∷ R.Beyond ∷ R.Segments ∷ R.Room ∷ R.Positions ∷ R.Unknown ∷ R.User ∷ R.NoWork ∷ R.NotNow ∷ R.Empty ∷ R.Taken ∷ R.Place ∷ R.Public ∷ R.Species ∷ R.Tables ∷ R.Pointers ∷ R.Image ∷ R.Wide ∷ R.Far ∷ []) (n - 1) R.User
 
 refusal-of : (r : Refusal) → refusalOf (refusalNumber r) ≡ r
 unfolding refusalOf
@@ -45,6 +45,7 @@ refusal-of R.Tables = refl
 refusal-of R.Pointers = refl
 refusal-of R.Image = refl
 refusal-of R.Wide = refl
+refusal-of R.Far = refl
 
 -- "12 is never given again": no refusal has the number
 pub twelve-is-none : (r : Refusal) → refusalNumber r ≢ 12

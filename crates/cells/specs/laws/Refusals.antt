@@ -29,7 +29,7 @@ refusal-keeps-image img s t e = ap (λ (x : Saved). x .image) (refusal-keeps _ _
 
 -- ---- one outcome, over any kind of state; of store and tables; of store, tables and image buffer
 
-same-outcome : {S : Type 0} (o : Outcome S) (a b : Answer) (x y : S) → outcomeOf (said a) x ≡ o → outcomeOf (said b) y ≡ o → (a ≡ b) × (x ≡ y)
+pub same-outcome : {S : Type 0} (o : Outcome S) (a b : Answer) (x y : S) → outcomeOf (said a) x ≡ o → outcomeOf (said b) y ≡ o → (a ≡ b) × (x ≡ y)
 same-outcome {S} o a b x y p q =
     let e : outcomeOf (said a) x ≡ outcomeOf (said b) y = p ∙ sym q in
     (one-answer a b (ap (λ (z : Outcome S). z .answer) e), ap (λ (z : Outcome S). z .after) e)

@@ -48,6 +48,18 @@ run-line-requires-2 c κs = search needs
 enum-told-5 : tie.Need-enum-told-5
 enum-told-5 c = search needs
 
+move-line-requires : tie.Need-move-line-requires
+move-line-requires c κs = search needs
+
+enum-told-6 : tie.Need-enum-told-6
+enum-told-6 c = search needs
+
+move-line-requires-2 : tie.Need-move-line-requires-2
+move-line-requires-2 c κs = search needs
+
+enum-told-7 : tie.Need-enum-told-7
+enum-told-7 c = search needs
+
 call-requires : tie.Need-call-requires
 call-requires c κs = search needs
 
@@ -102,11 +114,23 @@ returns-4 c = search call-lines
 same-length-13 : tie.Need-same-length-13
 same-length-13 c = search needs
 
+returns-5 : tie.Need-returns-5
+returns-5 c = search call-lines
+
 same-length-14 : tie.Need-same-length-14
 same-length-14 c = search needs
 
-returns-5 : tie.Need-returns-5
-returns-5 c = search call-lines
+returns-6 : tie.Need-returns-6
+returns-6 c = search call-lines
+
+same-length-15 : tie.Need-same-length-15
+same-length-15 c = search needs
+
+same-length-16 : tie.Need-same-length-16
+same-length-16 c = search needs
+
+returns-7 : tie.Need-returns-7
+returns-7 c = search call-lines
 
 pub call-line-spec : {M : Type 1} → statement M
 call-line-spec =
@@ -127,6 +151,10 @@ call-line-spec =
     enum-told-4
     run-line-requires-2
     enum-told-5
+    move-line-requires
+    enum-told-6
+    move-line-requires-2
+    enum-told-7
     call-requires
     same-length
     same-length-2
@@ -145,5 +173,9 @@ call-line-spec =
     same-length-12
     returns-4
     same-length-13
+    returns-5
     same-length-14
-    returns-5)
+    returns-6
+    same-length-15
+    same-length-16
+    returns-7)

@@ -132,6 +132,7 @@ impl Teller {
             5..=14 => format!("free {}", self.random.below(8)),
             15..=17 => return self.tidy(),
             18..=20 => return self.load_spoiled(),
+            21..=24 => return self.move_there_and_back(),
             _ => format!("save {image}"),
         };
         self.say(line)?;

@@ -25,7 +25,7 @@ impl Teller {
         Ok(())
     }
 
-    fn far_position(&mut self) -> u32 {
+    pub fn far_position(&mut self) -> u32 {
         let few = self.random.below(8);
         match self.random.below(5) {
             0 => OLD_GREATEST_END + 4 - few,
@@ -35,7 +35,7 @@ impl Teller {
     }
 
     /// The work pointer comes along or stays below the begin.
-    fn move_empty_file(&mut self, (user, entry): (u32, u32), position: u32) -> Told {
+    pub fn move_empty_file(&mut self, (user, entry): (u32, u32), position: u32) -> Told {
         let start = opening_cells(user as usize, entry as usize).start;
         let mut fields = vec![opening::BEGIN, opening::END];
         if !self.random.once_in(4) {

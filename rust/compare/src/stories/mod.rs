@@ -2,10 +2,13 @@
 
 mod calls;
 mod far;
+mod files;
 mod images;
+mod moves;
 mod numbers;
 mod runs;
 mod start;
+mod trials;
 mod wild;
 
 use crate::pair::{Difference, Pair};

@@ -87,6 +87,7 @@ impl Teller {
             "fresh" if !self.random.once_in(10) => self.say("free 7")?,
             "fresh" | "tidy" => self.say(call)?,
             "save" | "load" => self.say(format!("{call} {}", third % 4))?,
+            "up" | "down" => return self.move_anything(call),
             "free" => self.say(format!("free {user}"))?,
             "work" | "read" | "rename" => {
                 let length = self.random.one_of(&[0, 1, 2, 5, 12, 13, 30, 300]);

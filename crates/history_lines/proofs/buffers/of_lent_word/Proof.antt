@@ -39,8 +39,26 @@ same-requires-4 c κs = search needs
 returns-4 : tie.Need-returns-4
 returns-4 c = search looking
 
+slice-aggregate-same-5 : tie.Need-slice-aggregate-same-5
+slice-aggregate-same-5 c = search needs
+
+same-requires-5 : tie.Need-same-requires-5
+same-requires-5 c κs = search needs
+
 returns-5 : tie.Need-returns-5
 returns-5 c = search looking
+
+slice-aggregate-same-6 : tie.Need-slice-aggregate-same-6
+slice-aggregate-same-6 c = search needs
+
+same-requires-6 : tie.Need-same-requires-6
+same-requires-6 c κs = search needs
+
+returns-6 : tie.Need-returns-6
+returns-6 c = search looking depth 14 fits 9000
+
+returns-7 : tie.Need-returns-7
+returns-7 c = search looking depth 14 fits 9000
 
 pub of-lent-word-spec : {M : Type 1} → statement M
 of-lent-word-spec =
@@ -58,4 +76,10 @@ of-lent-word-spec =
     slice-aggregate-same-4
     same-requires-4
     returns-4
-    returns-5)
+    slice-aggregate-same-5
+    same-requires-5
+    returns-5
+    slice-aggregate-same-6
+    same-requires-6
+    returns-6
+    returns-7)

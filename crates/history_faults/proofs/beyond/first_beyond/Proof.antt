@@ -2,17 +2,20 @@ use borrow.Author.Needs.{needs}
 use Prim.Native.Nat.{_-_}
 use lib.ListN.{length}
 use native.Mathlib.Omega.{arith}
-use Rattle.history_faults.proofs.faults.first_limited.Statement.{statement}
-use Rattle.history_faults.proofs.faults.first_limited.Tie as tie
+use Rattle.history_faults.proofs.beyond.first_beyond.Statement.{statement}
+use Rattle.history_faults.proofs.beyond.first_beyond.Tie as tie
 
 abbrev Inv-loop : tie.InvT-loop
-Inv-loop form at₀ at = Unit {0}
+Inv-loop form line at₀ read₀ at read = Unit {0}
 
 abbrev μ-loop : tie.MeasureT-loop
-μ-loop form at₀ at = length form - at
+μ-loop form line at₀ read₀ at read = length form - at
 
 word-end-requires : tie.Need-word-end-requires Inv-loop μ-loop
 word-end-requires c κs = search needs
+
+word-end-requires-2 : tie.Need-word-end-requires-2 Inv-loop μ-loop
+word-end-requires-2 c κs = search needs
 
 loop-holds : tie.Need-loop-holds Inv-loop μ-loop
 loop-holds c = search needs
@@ -20,17 +23,11 @@ loop-holds c = search needs
 word-after-requires : tie.Need-word-after-requires Inv-loop μ-loop
 word-after-requires c κs = search needs
 
-sub-is-limited : tie.Need-sub-is-limited Inv-loop μ-loop
-sub-is-limited c = search needs
+word-after-requires-2 : tie.Need-word-after-requires-2 Inv-loop μ-loop
+word-after-requires-2 c κs = search needs
 
-part-is-limited-start : tie.Need-part-is-limited-start Inv-loop μ-loop
-part-is-limited-start c = search needs
-
-part-is-limited-end : tie.Need-part-is-limited-end Inv-loop μ-loop
-part-is-limited-end c = search needs
-
-is-limited-requires : tie.Need-is-limited-requires Inv-loop μ-loop
-is-limited-requires c κs = search needs
+is-beyond-at-requires : tie.Need-is-beyond-at-requires Inv-loop μ-loop
+is-beyond-at-requires c κs = search needs
 
 returns : tie.Need-returns Inv-loop μ-loop
 returns c = search needs
@@ -46,19 +43,18 @@ loop-again c = search needs
 returns-2 : tie.Need-returns-2 Inv-loop μ-loop
 returns-2 c = search needs
 
-pub first-limited-spec : {M : Type 1} → statement M
-first-limited-spec =
+pub first-beyond-spec : {M : Type 1} → statement M
+first-beyond-spec =
     tie.close
     (tie.spec
     Inv-loop
     μ-loop
     word-end-requires
+    word-end-requires-2
     loop-holds
     word-after-requires
-    sub-is-limited
-    part-is-limited-start
-    part-is-limited-end
-    is-limited-requires
+    word-after-requires-2
+    is-beyond-at-requires
     returns
     loop-less
     loop-again

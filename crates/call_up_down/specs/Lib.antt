@@ -1,0 +1,2 @@
+-- What the contracts of `call_up_down` cite. Assumes nothing.
+pub mod Moved
