@@ -85,10 +85,12 @@ pub fn of_saved(random: &mut Random, lent: Lent, heard: &mut Heard) {
     let Some(lent) = saved(lent) else { return };
     let (own, far) = (lent.tables[0], is_far(&lent.tables));
     let segments = about(random, own);
-    let refusal = match () {
-        _ if segments < own => IMAGE_REFUSED,
-        _ if far => FAR_REFUSED,
-        _ => DONE,
+    let refusal = if segments < own {
+        IMAGE_REFUSED
+    } else if far {
+        FAR_REFUSED
+    } else {
+        DONE
     };
     let (down, after) = there_and_back(random, &DOWN, lent.clone(), segments, heard);
     assert_eq!(down, refusal, "what is saved moves down otherwise: {own} segments over {segments}");
