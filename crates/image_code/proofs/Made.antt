@@ -1,15 +1,16 @@
 -- The image is made, and the tables are made. Assumes nothing.
-use Prim.Native.Nat.{ℕ, _-_}
+use Prim.Native.Nat.{ℕ, _+_, _-_, _*_}
 use mathlib.Core.Path.{_≡_, sym, ap, _∙_}
 use mathlib.Core.List.{List, _∷_, _++_}
-use borrow.Rule.Slice.PartMut.{putMid, postOf}
-use lib.ListN.{length, getD, take, drop, set, replicate, length-set, length-replicate, replicate-append-replicate}
+use native.Mathlib.Omega.{arith}
+use borrow.Rule.Slice.PartMut.{putMid, postOf, post-is}
+use lib.ListN.{length, getD, take, drop, set, replicate, length-append, length-set, length-replicate, replicate-append-replicate}
 use lib.Seq.{take-at, drop-at}
 use Rattle.combine.specs.Lists.{joined, tab, part}
 use Rattle.packing.specs.Packing.{unpacked, rowOf}
 use Rattle.placing.specs.Sizes.{places, openingsStart, tablesLength}
 use Rattle.image_code.specs.Lengths.{head-length}
-use Rattle.image.specs.Image.{Form, headWidths, headImage, recordImage, imageOf, headField, recordFrom, tablesFrom}
+use Rattle.image.specs.Image.{Form, imageLength, headWidths, headImage, recordImage, imageOf, headField, recordFrom, tablesFrom}
 
 pub image-made : (f : Form) (t x ys z : List ℕ) → ys ≡ headImage f (getD t 0 0) → z ≡ take 1 (putMid 0 1 x ys) ++ joined (tab places (recordImage f t)) → z ≡ imageOf f t
 unfolding imageOf
@@ -17,6 +18,16 @@ image-made f t x ys z e r =
     let records : List ℕ = joined (tab places (recordImage f t)) in
     r ∙ ap (λ (k : List ℕ). take 1 (putMid 0 1 x k) ++ records) e
     ∙ ap (λ (k : List ℕ). k ++ records) (take-at (headImage f (getD t 0 0)) (postOf 0 1 x) 1 (head-length f (getD t 0 0)))
+
+-- zero behind its first cell
+pub image-zeros : (f : Form) (x ys : List ℕ) (n : ℕ) → x ≡ replicate n 0 → n ≡ imageLength f → length ys ≡ 1
+    → (length (putMid 0 1 x ys) ≡ imageLength f) × (drop 1 (putMid 0 1 x ys) ≡ replicate (places * f .cells) 0)
+image-zeros f x ys n w e l =
+    let rest : drop 1 (putMid 0 1 x ys) ≡ replicate (places * f .cells) 0 =
+    drop-at ys (postOf 0 1 x) 1 l ∙ post-is 0 1 x (omega arith) ∙ ap (drop 1) (w ∙ ap (λ (k : ℕ). replicate k 0) e ∙ sym (replicate-append-replicate 1 (places * f .cells) 0))
+    ∙ drop-at (replicate 1 0) (replicate (places * f .cells) 0) 1 (length-replicate {A = ℕ} 1 0) in
+    let behind : length (postOf 0 1 x) ≡ places * f .cells = ap length (sym (drop-at ys (postOf 0 1 x) 1 l) ∙ rest) ∙ length-replicate {A = ℕ} (places * f .cells) 0 in
+    (length-append ys (postOf 0 1 x) ∙ omega (arith, l, behind), rest)
 
 -- the cells after the records, in tables that are zero from cell 1 on
 zeros-after : drop {A = ℕ} (openingsStart - 1) (replicate (tablesLength - 1) 0) ≡ replicate (tablesLength - openingsStart) 0

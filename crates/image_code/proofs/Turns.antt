@@ -9,8 +9,7 @@ use borrow.Rule.Slice.PartMut.{putMid, post-is, mid-len}
 use lib.ListN.{length, take, drop, replicate, length-append, length-replicate, take-append-drop, drop-of-length-le, replicate-append-replicate}
 use lib.Seq.{length-take-le, take-at, drop-at, drop-append-add, drop-drop}
 use Rattle.combine.specs.Lists.{joined, tab, part}
-use Rattle.placing.specs.Sizes.{places, recordLength, tablesLength}
-use Rattle.tables.specs.Layout.{recordBase}
+use Rattle.placing.specs.Sizes.{places}
 use Rattle.image.specs.Image.{Form, imageLength}
 use Rattle.image_code.specs.Pieces.{pieces-suc, pieces-length}
 
@@ -83,12 +82,14 @@ zeros-part a n r =
     ∙ ap (take n) (drop-at (replicate a 0) (replicate (n + r) 0) a (length-replicate a 0))
     ∙ ap (take n) (sym (replicate-append-replicate n r 0)) ∙ take-at (replicate n 0) (replicate r 0) n (length-replicate n 0)
 
--- the record to come is zero, in tables that were zero behind their first cell
-pub zeros-come : (x₀ x : List ℕ) (p e : ℕ) → p < places → e ≡ recordBase p + recordLength → drop 1 x₀ ≡ replicate (tablesLength - 1) 0 → drop (recordBase p) x ≡ drop (recordBase p) x₀ → take (e - recordBase p) (drop (recordBase p) x) ≡ replicate recordLength 0
-zeros-come x₀ x p e l q z d =
-    let before : ℕ = recordLength * p in
-    let behind : ℕ = tablesLength - 1 - recordLength - before in
-    let k : e - recordBase p ≡ recordLength = omega arith in
-    let m : tablesLength - 1 ≡ before + (recordLength + behind) = omega arith in
-    (λ j. take (k j) (d j)) ∙ ap (take recordLength) (sym (drop-drop before 1 x₀) ∙ ap (drop before) z)
-    ∙ ap (λ (n : ℕ). take recordLength (drop before (replicate n 0))) m ∙ zeros-part before recordLength behind
+-- the piece to come is zero, in a row of cells that was zero behind its first
+pub zeros-come : (m n : ℕ) (x₀ x : List ℕ) (p at e : ℕ) → m * p + m ≤ n → at ≡ 1 + m * p → e ≡ at + m → drop 1 x₀ ≡ replicate n 0 → drop (1 + m * p) x ≡ drop (1 + m * p) x₀
+    → take (e - at) (drop at x) ≡ replicate m 0
+zeros-come m n x₀ x p at e l here q z d =
+    let before : ℕ = m * p in
+    let behind : ℕ = n - m - before in
+    let k : e - at ≡ m = omega arith in
+    let whole : n ≡ before + (m + behind) = omega arith in
+    ap (λ (a : ℕ). take (e - a) (drop a x)) here ∙ ap (λ (a : ℕ). take a (drop (1 + before) x)) (ap (λ (a : ℕ). e - a) (sym here) ∙ k)
+    ∙ ap (take m) (d ∙ sym (drop-drop before 1 x₀) ∙ ap (drop before) z)
+    ∙ ap (λ (a : ℕ). take m (drop before (replicate a 0))) whole ∙ zeros-part before m behind

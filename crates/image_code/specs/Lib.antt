@@ -4,4 +4,5 @@ pub mod Fits
 pub mod Lengths
 pub mod Rows
 pub mod Spare
+pub mod Blank
 pub mod Pieces

@@ -66,7 +66,11 @@ unfolding sum
 few-zeros One = (zero-le, lit< tt)
 few-zeros Two = (le-refl 1, lit< tt)
 
-pub few-cells : (form : code.Form) → (1 ≤ formOf form .cells) × (formOf form .cells ≤ 15)
+-- a record has 14 cells or one more
+abbrev pub fewestCells : ℕ
+fewestCells = form1 .cells
+
+pub few-cells : (form : code.Form) → (fewestCells ≤ formOf form .cells) × (formOf form .cells ≤ fewestCells + 1)
 few-cells One = (lit≤ tt, lit≤ tt)
 few-cells Two = (lit≤ tt, lit≤ tt)
 

@@ -1,5 +1,6 @@
 // The catalogue image of the tables, and the tables of a catalogue image, in either form.
 use image::Form;
+use image::OLD_RECORD_CELLS;
 use placing::PLACES;
 use placing::RECORD_LENGTH;
 use placing::RECORDS_START;
@@ -19,6 +20,7 @@ ghost use Rattle.image.specs.Image.{imageLength, headWidths, rowWidths, packedR
 ghost use Rattle.image.specs.Forms.{formOf};
 ghost use Rattle.image.specs.Reformed.{reachesb};
 ghost use Rattle.image_code.specs.Fits.{Fits, Writable};
+ghost use Rattle.image_code.specs.Widths.{fewestCells};
 
 pub mod spares; // the zero bits at the records' ends
 mod widths; // the widths of the image's fields
@@ -55,32 +57,36 @@ fn pack_record(form: Form, values: &[u32], widths: &[u32], out: &mut [u32])
     packing_rows::pack(out, widths, &row[0..widths::count(form)]);
 }
 
-// The same for a record that may be unused: "an unused record is all zero", and so are its cells of the image.
+// The same for a record that may be unused, where its cells of the image are zero: "an unused record is all zero", and so they stay.
 fn put_record(form: Form, values: &[u32], widths: &[u32], out: &mut [u32])
-    requires { ⌜ (length (now values) ≡ recordLength) × (length (now out) ≡ formOf form .cells) × Writable (formOf form) (now values) × (now widths ≡ rowWidths (formOf form)) ⌝ }
+    requires { ⌜ (length (now values) ≡ recordLength) × (now out ≡ replicate (formOf form .cells) 0) × Writable (formOf form) (now values) × (now widths ≡ rowWidths (formOf form)) ⌝ }
     ensures { λ _. ⌜ now (out .exit) ≡ packedRecord (formOf form) (now (values .entry)) ⌝ }
 {
     if values[0] == 0 {
-        combine::fill_cells(out, 0);
         return;
     }
     pack_record(form, values, widths, out);
 }
 
-// Whether a record's cells of the image are all zero: where it is used the first one is not, and no other is looked at.
+// Whether a record's cells of the image are all zero: where it is used the first one is not, and no other is looked at. The last one is looked at by
+// itself, so that the others are a row of one length in both forms.
 fn is_blank(cells: &[u32]) -> bool
-    requires { ⌜ 1 ≤ length (now cells) ⌝ }
+    requires { ⌜ (fewestCells ≤ length (now cells)) × (length (now cells) ≤ fewestCells + 1) ⌝ }
     ensures { λ r. ⌜ r ≡ allBelow (length (now (cells .entry))) (λ k. eqb (getD (now (cells .entry)) k 0) 0) ⌝ }
 {
     if cells[0] != 0 {
         return false;
     }
-    combine::all_zero(cells)
+    if cells[cells.len() - 1] != 0 {
+        return false;
+    }
+    combine::all_zero(&cells[0..OLD_RECORD_CELLS])
 }
 
 // The cells of the record that its cells of the image say, by the widths of its fields, where all was zero: so they stay for cells that are.
 fn take_record(cells: &[u32], fields: &[u32], out: &mut [u32])
-    requires { ⌜ (1 ≤ length (now cells)) × Narrow (now fields) × (now out ≡ replicate (length (now fields)) 0) ⌝ }
+    requires { ⌜ (fewestCells ≤ length (now cells)) × (length (now cells) ≤ fewestCells + 1) ⌝ }
+    requires { ⌜ Narrow (now fields) × (now out ≡ replicate (length (now fields)) 0) ⌝ }
     requires { ⌜ (sum (now fields) ≤ 32 * length (now cells)) × (32 * length (now cells) < sum (now fields) + 32) ⌝ }
     ensures { λ _. ⌜ now (out .exit) ≡ unpacked (now (fields .entry)) (rowOf (now (cells .entry)) / 2 ^ (32 * length (now (cells .entry)) - sum (now (fields .entry)))) ⌝ }
 {
@@ -90,9 +96,10 @@ fn take_record(cells: &[u32], fields: &[u32], out: &mut [u32])
     packing_rows::unpack(cells, fields, out);
 }
 
-// "Saving writes the records only, whatever is open."
+// "Saving writes the records only, whatever is open.": into an image that is zero behind its first cell.
 fn put_records(form: Form, tables: &[u32], image: &mut [u32])
     requires { ⌜ Ranged (now tables) × (reachesb (formOf form) (now tables) ≡ true) × (length (now image) ≡ imageLength (formOf form)) ⌝ }
+    requires { ⌜ drop 1 (now image) ≡ replicate (places * formOf form .cells) 0 ⌝ }
     ensures { λ _. ⌜ now (image .exit) ≡ take 1 (now (image .entry)) ++ joined (tab places (recordImage (formOf form) (now (tables .entry)))) ⌝ }
 {
     let all = widths::row(form);
@@ -138,6 +145,7 @@ pub fn put_image(form: Form, tables: &[u32], image: &mut [u32])
     requires { ⌜ Ranged (now tables) × (reachesb (formOf form) (now tables) ≡ true) × (length (now image) ≡ imageLength (formOf form)) ⌝ }
     ensures { λ _. ⌜ now (image .exit) ≡ imageOf (formOf form) (now (tables .entry)) ⌝ }
 {
+    combine::fill_cells(image, 0);
     put_head(form, tables[0], &mut image[0..1]);
     put_records(form, tables, image);
 }

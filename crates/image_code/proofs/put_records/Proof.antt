@@ -12,7 +12,7 @@ use Rattle.image.specs.laws.Formed.{row-many}
 use Rattle.image_code.specs.Widths.{formed, few-zeros, few-cells}
 use Rattle.image_code.specs.Fits.{Writable, records-writable}
 use Rattle.image_code.specs.Lengths.{record-image-length}
-use Rattle.image_code.proofs.Turns.{mid-part, mid-is, pieces-in, piece-next, placed, none-placed, one-placed, all-placed, image-full}
+use Rattle.image_code.proofs.Turns.{mid-part, mid-is, pieces-in, piece-next, placed, none-placed, not-placed, one-placed, all-placed, image-full, zeros-come}
 use borrow.Author.Needs.{needs}
 use Rattle.image_code.proofs.put_records.Statement.{statement}
 use Rattle.image_code.proofs.put_records.Tie as tie
@@ -112,7 +112,7 @@ part-put-record-end-2 c =
     let form = s .args .form in
     let m = formOf form .cells in
     let l = c .before .before .loop in
-    omega (arith, pieces-in m (l .p) (omega arith), s .pre .2, l .inv .1, l .inv .2, l .inv .3)
+    omega (arith, pieces-in m (l .p) (omega arith), s .pre .0 .2, l .inv .1, l .inv .2, l .inv .3)
 
 put-record-requires : tie.Need-put-record-requires Inv-loop μ-loop
 put-record-requires c κs =
@@ -124,9 +124,10 @@ put-record-requires c κs =
     let t = now (s .args .tables) in
     let row = mid-is (1 + 50 * l .p) (51 + 50 * l .p) recordLength t (omega arith) in
     let inside = pieces-in m (l .p) (omega arith) in (
-      mid-part (1 + 50 * l .p) (51 + 50 * l .p) recordLength t (omega arith) (omega (arith, s .pre .0 .0)),
-      mid-part (l .at) (l .at + cells) m (l .image) (omega (arith, l .inv .2)) (omega (arith, inside, s .pre .2, l .inv .1, l .inv .2, l .inv .3)),
-      subst (Writable (formOf form)) (sym row) (records-writable t (s .pre .0) (formOf form) (formed form) (s .pre .1) (l .p) (omega arith)),
+      mid-part (1 + 50 * l .p) (51 + 50 * l .p) recordLength t (omega arith) (omega (arith, s .pre .0 .0 .0)),
+      zeros-come m (places * m) (now (s .args .image)) (l .image) (l .p) (l .at) (l .at + cells) (omega (arith, inside)) (l .inv .3) (omega (arith, l .inv .2)) (s .pre .1)
+          (not-placed (recordImage (formOf form) t) m (record-image-length (formOf form) t) (now (s .args .image)) (l .image) (l .p) (omega (arith, s .pre .0 .2)) (l .inv .5)),
+      subst (Writable (formOf form)) (sym row) (records-writable t (s .pre .0 .0) (formOf form) (formed form) (s .pre .0 .1) (l .p) (omega arith)),
       l .inv .4,
     )
 
@@ -161,7 +162,7 @@ loop-again c =
       next .1,
       l .inv .4,
       one-placed (recordImage (formOf form) t) m (record-image-length (formOf form) t) (now (s .args .image)) (l .image) (f .last .1 .1 .1 .0) (l .p) (l .at) (l .at + cells)
-          (omega (arith, s .pre .2)) (l .inv .3) (next .0) (next .1) (l .inv .5)
+          (omega (arith, s .pre .0 .2)) (l .inv .3) (next .0) (next .1) (l .inv .5)
           (f .ensures ∙ ap (packedRecord (formOf form)) (mid-is (1 + 50 * l .p) (51 + 50 * l .p) recordLength t (omega arith))),
     )
 
@@ -174,7 +175,7 @@ returns c =
     let f = formOf (s .args .form) in
     let l = c .before .loop in
     let t = now (s .args .tables) in
-    image-full f (now (s .args .image)) _ (l .image) (s .pre .2)
+    image-full f (now (s .args .image)) _ (l .image) (s .pre .0 .2)
     (all-placed (recordImage f t) (f .cells) (record-image-length f t) (now (s .args .image)) (l .image) (l .p) (imageLength f) (omega arith) (ap (λ (k : ℕ). 1 + k) (mul-comm (f .cells) places)) (l .inv .5))
 
 pub put-records-spec : {M : Type 1} → statement M

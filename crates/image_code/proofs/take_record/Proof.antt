@@ -17,12 +17,12 @@ returns c =
     let s = c .before .before .before .before .before in
     let cells = now (s .args .cells) in
     let fields = now (s .args .fields) in
-    s .pre .0 .2 ∙ sym (unpack-zeros fields cells (32 * length cells - sum fields) (sym (c .before .is-blank .ensures) ∙ c .if1 .taken))
+    s .pre .1 .0 .1 ∙ sym (unpack-zeros fields cells (32 * length cells - sum fields) (sym (c .before .is-blank .ensures) ∙ c .if1 .taken))
 
 unpack-requires : tie.Need-unpack-requires
 unpack-requires c κs =
     let s = c .before .before .before .before .before .before in
-    ((s .pre .0 .1, ap length (s .pre .0 .2) ∙ length-replicate {A = ℕ} (length (now (s .args .fields))) 0), s .pre .1)
+    ((s .pre .1 .0 .0, ap length (s .pre .1 .0 .1) ∙ length-replicate {A = ℕ} (length (now (s .args .fields))) 0), s .pre .1 .1)
 
 same-length : tie.Need-same-length
 same-length c = search needs

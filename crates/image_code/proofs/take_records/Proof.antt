@@ -9,7 +9,7 @@ use lib.ListN.{length, take, drop, replicate}
 use Rattle.combine.specs.Lists.{part}
 use Rattle.packing.specs.Packing.{sum, rowOf, unpacked}
 use Rattle.packing_rows.specs.Waiting.{Narrow}
-use Rattle.placing.specs.Sizes.{places, recordLength, openingsStart}
+use Rattle.placing.specs.Sizes.{places, recordLength, openingsStart, tablesLength}
 use Rattle.image.specs.Image.{Form, recordFrom, recordPart}
 use Rattle.image.specs.Forms.{formOf}
 use Rattle.image.specs.laws.Formed.{Formed}
@@ -124,14 +124,13 @@ take-record-requires c κs =
     let piece : length (take (l .at + cells .result - l .at) (drop (l .at) img)) ≡ f .cells = mid-part (l .at) (l .at + cells .result) (f .cells) img (omega (arith, cells .ensures)) (omega (arith, inside, long, l .inv .2)) in
     let sums = fields-sum f (formed form) in
     let many = ap sum fields in
-    let zeros = zeros-come t (l .tables) (l .p) (51 + 50 * l .p) (omega arith) (omega arith) (s .pre .2)
+    let zeros = zeros-come recordLength (tablesLength - 1) t (l .tables) (l .p) (1 + 50 * l .p) (51 + 50 * l .p) (omega arith) refl (omega arith) (s .pre .2)
     (not-placed (recordFrom f img) recordLength (record-from-length f (formed form) img) t (l .tables) (l .p) (omega arith) (l .inv .3 f (formed form) (cells .ensures) fields)) in (
+      (omega (arith, piece, few-cells form .0), omega (arith, piece, few-cells form .1)),
       (
-        omega (arith, piece, few-cells form .0),
-        subst Narrow (sym fields) (fields-narrow form),
-        zeros ∙ ap (λ (k : ℕ). replicate k 0) (sym (ap length fields ∙ formed form .many)),
+        (subst Narrow (sym fields) (fields-narrow form), zeros ∙ ap (λ (k : ℕ). replicate k 0) (sym (ap length fields ∙ formed form .many))),
+        (omega (arith, piece, sums, many), omega (arith, piece, sums, many, few-zeros form .1)),
       ),
-      (omega (arith, piece, sums, many), omega (arith, piece, sums, many, few-zeros form .1)),
     )
 
 add-at : tie.Need-add-at Inv-loop μ-loop
