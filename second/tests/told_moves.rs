@@ -95,11 +95,10 @@ fn moves_in_histories_of_other_modes() {
     }
 }
 
-/// What is unfit by itself, both ways.
-const ALONE: [&str; 18] = [
+/// What is unfit by itself, both ways, and besides in an image that is too wide.
+const UNFIT: [&str; 13] = [
     "the length of the image",
     "the length of the other",
-    "both lengths",
     "no segments there",
     "one segment less",
     "fewer segments",
@@ -107,34 +106,17 @@ const ALONE: [&str; 18] = [
     "the number of segments",
     "a zero bit of cell 0",
     "an unused record",
-    "the used bit",
     "a name",
-    "an owner",
-    "a privacy",
-    "a species",
     "a begin",
     "an end",
     "a list",
 ];
 
-/// What is wrong besides in an image that is too wide: "22 comes before 24."
-const BESIDES: [&str; 15] = [
-    "the length of the image",
-    "the length of the other",
-    "no segments there",
-    "one segment less",
-    "fewer segments",
-    "the form number",
-    "the number of segments",
-    "a zero bit of cell 0",
-    "a bit at a used record's end",
-    "a bit at an unused record's end",
-    "an unused record",
-    "a name",
-    "a begin",
-    "an end",
-    "a list",
-];
+/// What is unfit by itself only.
+const ALONE: [&str; 5] = ["both lengths", "the used bit", "an owner", "a privacy", "a species"];
+
+/// What is unfit only in an image that is too wide: "22 comes before 24."
+const BESIDES: [&str; 2] = ["a bit at a used record's end", "a bit at an unused record's end"];
 
 const WANTED_IN_MOVES: [&str; 10] = [
     "down unfit by a bit at a used record's end",
@@ -152,8 +134,10 @@ const WANTED_IN_MOVES: [&str; 10] = [
 #[test]
 fn every_kind_in_histories_of_moves() {
     let counts = count_all(1..=4, Mode::Moves, 50, &ANSWERS);
-    let alone = ALONE.iter().flat_map(|thing| ["up", "down"].map(|word| format!("{} unfit by {}", word, thing)));
-    let besides = BESIDES.iter().map(|thing| format!("down unfit by {}, though too wide", thing));
+    let alone = UNFIT.iter().chain(&ALONE);
+    let alone = alone.flat_map(|thing| ["up", "down"].map(|word| format!("{} unfit by {}", word, thing)));
+    let besides = UNFIT.iter().chain(&BESIDES);
+    let besides = besides.map(|thing| format!("down unfit by {}, though too wide", thing));
     for (least, thing) in alone.map(|thing| (10, thing)).chain(besides.map(|thing| (4, thing))) {
         check_counts(&counts, least, &[&thing], "moves");
     }
