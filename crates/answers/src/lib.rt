@@ -1,9 +1,11 @@
 // What a call answers.
+#![tactic(auto)]
+
 ghost use Rattle.std.specs.Prelude.{◌≡◌};
 ghost use Rattle.answers.specs.Said.{refusal_number};
 
 // Why a call is refused, in the order of their numbers: document 01's 1 to 22, and document 02's; 12 is never given again (P4), and no other refusal gets it.
-#[derive(Drop)]
+#[derive(Clone, Copy)]
 pub enum Refusal {
     User,
     Entry,
@@ -32,14 +34,14 @@ pub enum Refusal {
 
 // "An answer is either done, with its number where there is one, or refused, with one of these inside it": done is 0 where
 // there is no number.
-#[derive(Drop)]
+#[derive(Clone, Copy)]
 pub enum Answer {
     Done(u32),
     Refused(Refusal),
 }
 
 // The same, where the number is signed.
-#[derive(Drop)]
+#[derive(Clone, Copy)]
 pub enum SignedAnswer {
     Done(i32),
     Refused(Refusal),

@@ -1,4 +1,6 @@
 // The decisions that every call pays for, exported for bench/. Nothing is asked of their callers.
+#![tactic(auto)]
+
 ghost use Rattle.std.specs.Prelude.{◌≡◌, cond};
 ghost use Rattle.segments.specs.Free.{free_count, lowest_free};
 ghost use Rattle.tables.specs.Sound.{soundb};

@@ -62,7 +62,7 @@ module _ (s t : List ℕ) (u e i : ℕ) (here : Reached (length s) t u e i) wher
       ∙ ap (λ (y : Verdict Use). let x = settle o (on_done (carried o) y) in outcome_of x.answer (lent s (put_opening t k x.after))) w
       ∙ ap (λ (y : List ℕ). outcome_of (refused (refusal_number why)) (lent s y)) (put-opening-again t (passed-long here.passed) k (omega (arith, p.user, p.entry))))
 
-  -- ---- what each inquiry Asks
+  -- ---- what each inquiry asks
 
   pub asks-number : {m n : ℕ} → m ≡ n → asked m (handle_in (opening_at t i)) ≡ asked n (handle_in (opening_at t i))
   asks-number q = ap (λ (k : ℕ). asked k (handle_in (opening_at t i))) q

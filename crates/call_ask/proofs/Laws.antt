@@ -28,7 +28,7 @@ use Rattle.gate.specs.Passed.{Reached, reach-at, reaches, reaches-not}
 use Rattle.gate_laws.specs.Behind.{passed-long, passed-few, reached-sound}
 use Rattle.call_ask.specs.Told.{field_at, told}
 use Rattle.call_ask.proofs.Fields.{species-cell, value_cell, value-beyond}
-use Rattle.call_ask.proofs.Asked.{asks, answered, answered-not, asks-number, asks-species, asks-permit, asks-begin, asks-end, asks-claim, asks-no-symbol, asks-symbol, asks-no-value, asks-value}
+use Rattle.call_ask.proofs.Asked.{Asks, answered, answered-not, asks-number, asks-species, asks-permit, asks-begin, asks-end, asks-claim, asks-no-symbol, asks-symbol, asks-no-value, asks-value}
 
 module _ (cells : ℕ) (t : List ℕ) (u e : ℕ) (g : Gate) (eg : g ≡ reach_of cells t u e) where
   pub tell_no : (number : ℕ) (why : Refusal) → g ≡ No why → Refused why ≡ told t number (reach_of cells t u e)
@@ -46,7 +46,7 @@ module _ (cells : ℕ) (t : List ℕ) (u e : ℕ) (g : Gate) (eg : g ≡ reach_o
   tell-at number i n at q = ap Done q ∙ sym (ap (told t number) (sym eg ∙ at))
 
 module _ (s t : List ℕ) (u e : ℕ) where
-  tells : (act : Act) (number : ℕ) → leaves_content act ≡ true → ((i : ℕ) (here : Reached (length s) t u e i) → asks s t u e i here act (field_at t i number))
+  tells : (act : Act) (number : ℕ) → leaves_content act ≡ true → ((i : ℕ) (here : Reached (length s) t u e i) → Asks s t u e i here act (field_at t i number))
       → (g : Gate) → g ≡ reach_of (length s) t u e → outcome (told t number g) s t ≡ request_out (uses act) s t u e
   unfolding told
   tells act number q h (No why) eg = reaches-not s t u e (No why) eg (uses act) refl why refl
@@ -56,7 +56,7 @@ module _ (s t : List ℕ) (u e : ℕ) where
     abbrev ToldBy : ℕ → Type 0
     ToldBy number = r ≡ told t number (reach_of (length s) t u e)
 
-    told-by : (act : Act) (number : ℕ) → leaves_content act ≡ true → ((i : ℕ) (here : Reached (length s) t u e i) → asks s t u e i here act (field_at t i number))
+    told-by : (act : Act) (number : ℕ) → leaves_content act ≡ true → ((i : ℕ) (here : Reached (length s) t u e i) → Asks s t u e i here act (field_at t i number))
         → ToldBy number → outcome r s t ≡ request_out (uses act) s t u e
     told-by act number q h w = ap (λ (a : Answer). outcome a s t) w ∙ tells act number q h (reach_of (length s) t u e) refl
 

@@ -1,4 +1,6 @@
 // The inquiries about an open file.
+#![tactic(auto)]
+
 ghost use Rattle.std.specs.Prelude.{◌≡◌, ◌+◌, ◌<◌, length};
 ghost use Rattle.placing.specs.Sizes.{entries, tables_length, opening_length};
 ghost use Rattle.rules.specs.Calls.{uses};

@@ -1,4 +1,6 @@
 // The calls that end an opening: close, private or public, and abandon.
+#![tactic(auto)]
+
 ghost use Rattle.std.specs.Prelude.{◌≡◌, ◌≤◌, ◌<◌, length};
 ghost use Rattle.combine.specs.Verdict.{done};
 ghost use Rattle.combine.specs.Outcome.{outcome_of};
@@ -16,7 +18,7 @@ use gate::Gate;
 use tables::Opening;
 
 // How an opening is left.
-#[derive(Drop)]
+#[derive(Clone, Copy)]
 enum Leaving {
     Closes(bool),
     Abandons,

@@ -1,4 +1,6 @@
 // The inquiry that names no entry.
+#![tactic(auto)]
+
 ghost use Rattle.std.specs.Prelude.{◌≡◌};
 ghost use Rattle.cells.specs.Outcomes.{outcome, free_out};
 

@@ -1,4 +1,6 @@
 // The call that fills a list by next: a stretch at a time.
+#![tactic(auto)]
+
 ghost use Rattle.std.specs.Prelude.{◌≡◌, ◌<◌, false, eqb, length};
 ghost use Rattle.combine.specs.Run.{admitted};
 ghost use Rattle.combine.specs.Verdict.{done};
@@ -19,7 +21,7 @@ use gate::Gate;
 use tables::Opening;
 
 // What a turn comes to: it is refused, or so many elements are in the list.
-#[derive(Drop)]
+#[derive(Clone, Copy)]
 pub enum Turn {
     Stopped(Refusal),
     Went(usize),

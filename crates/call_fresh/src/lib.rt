@@ -1,4 +1,6 @@
 // The operator's fresh start.
+#![tactic(auto)]
+
 ghost use Rattle.std.specs.Prelude.{◌≡◌};
 ghost use Rattle.placing.specs.Sizes.{fresh_segments};
 ghost use Rattle.cells.specs.Outcomes.{outcome, fresh_out};

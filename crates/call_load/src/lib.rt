@@ -1,4 +1,6 @@
 // The operator's load.
+#![tactic(auto)]
+
 ghost use Rattle.std.specs.Prelude.{◌≡◌, ◌≤◌, length, replicate};
 ghost use Rattle.placing.specs.Sizes.{least_store, tables_length};
 ghost use Rattle.cells.specs.Outcomes.{outcome, load_out};

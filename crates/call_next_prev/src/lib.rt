@@ -1,4 +1,6 @@
 // The calls `next` and `prev`, plain and signed.
+#![tactic(auto)]
+
 ghost use Rattle.std.specs.Prelude.{◌≡◌, length};
 ghost use Rattle.rules.specs.Calls.{uses, next, prev};
 ghost use Rattle.rules.specs.Access.{next_rule, prev_rule};
@@ -18,7 +20,7 @@ pub mod delivery; // it is delivered
 pub mod signed; // the signed calls
 
 // What a reading call is to deliver: the element at a position, in the segment of its stretch.
-#[derive(Drop)]
+#[derive(Clone, Copy)]
 pub enum Reading {
     No(Refusal),
     At(Segment, Position),

@@ -1,4 +1,6 @@
 // The calls that open a file: new, for work, for reading.
+#![tactic(auto)]
+
 ghost use Rattle.std.specs.Prelude.{◌≡◌, ◌<◌, length};
 ghost use Rattle.placing.specs.Sizes.{entries, places, tables_length};
 ghost use Rattle.rules.specs.Calls.{opens};

@@ -1,4 +1,6 @@
 // The calls that move, make and delete pointers of an open file.
+#![tactic(auto)]
+
 ghost use Rattle.std.specs.Prelude.{◌≡◌, false, ◌<◌, length};
 ghost use Rattle.combine.specs.Verdict.{is_done};
 ghost use Rattle.combine.specs.Outcome.{outcome_of};

@@ -1,4 +1,6 @@
 // The call that gives an open file another name.
+#![tactic(auto)]
+
 ghost use Rattle.std.specs.Prelude.{◌≡◌};
 ghost use Rattle.rules.specs.Calls.{uses};
 ghost use Rattle.rules.specs.Calls as act;

@@ -1,4 +1,6 @@
 // The operator's save.
+#![tactic(auto)]
+
 ghost use Rattle.std.specs.Prelude.{◌≡◌};
 ghost use Rattle.cells.specs.Outcomes.{save_out};
 ghost use Rattle.call_save.specs.Saved.{saved_outcome};

@@ -1,4 +1,6 @@
 // The operator's call that tidies: the listed segments get the lowest numbers.
+#![tactic(auto)]
+
 ghost use Rattle.std.specs.Prelude.{not, ◌≡◌, length};
 ghost use Rattle.placing.specs.Sizes.{tables_length};
 ghost use Rattle.rules.specs.House.{has_open};

@@ -1,4 +1,6 @@
 // The operator's images moved from one form to the other: neither store nor tables are lent.
+#![tactic(auto)]
+
 ghost use Rattle.std.specs.Prelude.{◌≡◌, length, replicate};
 ghost use Rattle.placing.specs.Sizes.{tables_length};
 ghost use Rattle.image.specs.Forms.{form_of};

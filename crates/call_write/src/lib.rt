@@ -1,4 +1,6 @@
 // The calls `write` and `write_signed`: a plan is decided, and carried out.
+#![tactic(auto)]
+
 ghost use Rattle.std.specs.Prelude.{◌≡◌, ◌+◌, ◌*◌, ◌≤◌, ◌<◌, length};
 ghost use Rattle.placing.specs.Sizes.{segment_cells, tables_length, entries};
 ghost use Rattle.numbers.specs.Numbers.{is_signed, too_wide, bits_of};

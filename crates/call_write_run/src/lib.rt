@@ -1,4 +1,6 @@
 // The call that writes a run of elements: turn by turn, each as far as a segment goes.
+#![tactic(auto)]
+
 ghost use Rattle.std.specs.Prelude.{◌≡◌, ◌≤◌, ◌<◌, length};
 ghost use Rattle.std.proofs.Math.Option.{some};
 ghost use Rattle.combine.specs.Run.{admitted};
@@ -21,7 +23,7 @@ use tables::Opening;
 use write_plan::Plan;
 
 // What a turn comes to: the next element is refused, or so many are written.
-#[derive(Drop)]
+#[derive(Clone, Copy)]
 enum Turn {
     Stopped(Refusal),
     Went(usize),

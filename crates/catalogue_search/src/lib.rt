@@ -1,4 +1,6 @@
 // Searches through the catalogue in lent tables.
+#![tactic(auto)]
+
 ghost use Rattle.std.specs.Prelude.{◌≡◌, not, ◌<◌, eqb, ltb, length};
 ghost use Rattle.combine.specs.First.{first_below};
 ghost use Rattle.placing.specs.Sizes.{entries, places, tables_length, record_length, opening_length};
@@ -15,7 +17,7 @@ use placing::{
 use tables::layout;
 
 // Of whose files a search is: the user's own, or the public ones.
-#[derive(Drop)]
+#[derive(Clone, Copy)]
 pub enum Wanted {
     Own(u32),
     Public,

@@ -1,4 +1,6 @@
 // What a close does, or why it is refused: "for close 18, 16, 17".
+#![tactic(auto)]
+
 ghost use Rattle.std.specs.Prelude.{◌≡◌, ℕ, ◌≤◌, length};
 ghost use Rattle.placing.specs.Sizes.{places, tables_length};
 ghost use Rattle.rules.specs.Rules.{without, place_for, close_rule};
@@ -14,7 +16,7 @@ use tables::Opening;
 
 // What is done with an opening: it ends; it ends and the record at a place is freed; it becomes the record at a place, public
 // or private.
-#[derive(Drop)]
+#[derive(Clone, Copy)]
 pub enum Plan {
     No(Refusal),
     Ends,

@@ -1,4 +1,6 @@
 // Loops over rows of cells that serve every crate.
+#![tactic(auto)]
+
 ghost use Rattle.std.specs.Prelude.{◌≡◌, ◌≤◌, get_or, length, replicate, eqb, ltb};
 ghost use Rattle.combine.specs.Below.{all_below, failed};
 ghost use Rattle.combine.specs.Lists.{is_in, same};

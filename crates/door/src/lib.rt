@@ -1,5 +1,7 @@
 // What C and Rust call: store, tables (and image) as lent slices, then the numbers or the name's bytes; the answer is one number. Nothing is
 // asked of a caller's numbers, lengths or cells.
+#![tactic(auto)]
+
 pub mod packed; // an answer as one number
 pub mod version; // the door's version
 pub mod lengths; // the one length of the tables, and of an image

@@ -1,4 +1,6 @@
 // Free segments: how many there are. A list of segment numbers is a row of cells of the tables.
+#![tactic(auto)]
+
 ghost use Rattle.std.specs.Prelude.{◌≡◌, not, ◌&&◌, cond, ℕ, ◌<◌, ◌≤◌, eqb, get_or, length};
 ghost use Rattle.combine.specs.Below.{count_below};
 ghost use Rattle.combine.specs.Lists.{is_in};

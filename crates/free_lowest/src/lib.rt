@@ -1,4 +1,6 @@
 // The lowest free segment, by a search through the lists of segment numbers, each a row of cells of the tables.
+#![tactic(auto)]
+
 ghost use Rattle.std.specs.Prelude.{◌≡◌, ◌+◌, ◌<◌, ◌≤◌, length};
 ghost use Rattle.placing.specs.Sizes.{most_segments, most_held, lists};
 ghost use Rattle.placing.specs.Placing.{segment};
@@ -12,7 +14,7 @@ ghost use Rattle.free_lowest.specs.Run.{run_end};
 use placing::{LISTS, Segment};
 
 // The rows of the lists that hold a segment.
-#[derive(Drop)]
+#[derive(Clone, Copy)]
 struct Rows {
     number: usize,
     starts: [usize; LISTS],

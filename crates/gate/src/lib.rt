@@ -1,4 +1,6 @@
 // The refusals that come before a call's own: "Order: 20, 1, 2".
+#![tactic(auto)]
+
 ghost use Rattle.std.specs.Prelude.{◌≡◌};
 ghost use Rattle.gate.specs.Gates.{pass_of, reach_of};
 
@@ -6,7 +8,7 @@ use answers::Refusal;
 use placing::{GREATEST_ENTRY, GREATEST_USER, OPENING_LENGTH, OPENINGS_START, ROW_ENTRIES};
 
 // The entry that a call names, of 32, or the refusal.
-#[derive(Drop)]
+#[derive(Clone, Copy)]
 pub enum Gate {
     No(Refusal),
     At(usize),

@@ -1,1 +1,2 @@
 // What is known behind the gate: laws alone, in specs/.
+#![tactic(auto)]

@@ -1,4 +1,6 @@
 // Lines that are no calls, on one buffer; and how many cells of each buffer are lent.
+#![tactic(auto)]
+
 ghost use Rattle.std.specs.Prelude.{◌≡◌, ◌+◌, ◌*◌, ◌%◌, ◌≤◌};
 ghost use Rattle.history_buffers.specs.Buffers.{within_of, lent_of, lended, lend_line, sum_of, sum_line, peeked, peek_line, poking, poked, poke_line, testing, test_of};
 
@@ -6,7 +8,7 @@ use history_calls::Reply;
 use history_lines::OfBuffer;
 use history_words::{Number, Numbers};
 
-pub mod numbers; // as many numbers as a line wants
+pub mod wanted; // as many numbers as a line wants
 
 // Store, tables, image 0 to 3, list 0 and 1, in this order.
 pub const BUFFERS: usize = 8;
@@ -14,14 +16,14 @@ pub const BUFFERS: usize = 8;
 const LAST_BUFFER: usize = BUFFERS - 1;
 
 // Two numbers, and no more.
-#[derive(Drop)]
+#[derive(Clone, Copy)]
 pub enum Pair {
     Is(u32, u32),
     Bad,
 }
 
 // What a line is answered, and how many cells are lent from now on of each buffer.
-#[derive(Drop)]
+#[derive(Clone, Copy)]
 pub struct Answered {
     pub reply: Reply,
     pub lengths: [u32; BUFFERS],
@@ -76,7 +78,7 @@ fn lend(lengths: [u32; BUFFERS], k: usize, most: usize, n: u32) -> Answered
 fn lend_line(lengths: [u32; BUFFERS], k: usize, most: usize, numbers: Numbers) -> Answered
     ensures { result ≡ lend_line lengths k most numbers }
 {
-    let found = numbers::one_number(numbers);
+    let found = wanted::one_number(numbers);
     match found {
         Number::Is(n) => lend(lengths, k, most, n),
         Number::Bad => Answered {
@@ -110,7 +112,7 @@ fn sum(cells: &[u32]) -> u32
 fn sum_line(cells: &[u32], lengths: [u32; BUFFERS], k: usize, numbers: Numbers) -> Reply
     ensures { result ≡ sum_line cells.now lengths k numbers }
 {
-    if numbers::no_number(numbers) {
+    if wanted::no_number(numbers) {
         let n = lent(lengths, k, cells.len());
         return Reply::Sum(sum(&cells[0..n]));
     }
@@ -131,7 +133,7 @@ fn peek(cells: &[u32], at: u32) -> Reply
 fn peek_line(cells: &[u32], numbers: Numbers) -> Reply
     ensures { result ≡ peek_line cells.now numbers }
 {
-    let found = numbers::one_number(numbers);
+    let found = wanted::one_number(numbers);
     match found {
         Number::Is(at) => peek(cells, at),
         Number::Bad => Reply::Bad,
@@ -153,7 +155,7 @@ fn poke(cells: &mut [u32], at: u32, value: u32) -> Reply
 fn poke_line(cells: &mut [u32], numbers: Numbers) -> Reply
     ensures { poking result cells.new ≡ poke_line cells.old numbers }
 {
-    let found = numbers::two_numbers(numbers);
+    let found = wanted::two_numbers(numbers);
     match found {
         Pair::Is(at, value) => poke(cells, at, value),
         Pair::Bad => Reply::Bad,

@@ -4,18 +4,12 @@ use Rattle.std.proofs.Math.Option.{Option, none, some}
 use Rattle.rules.specs.Calls.{Call, starts, asks, arranges, on, count, opens, closes, abandons, uses}
 use Rattle.rules.specs.Calls as call
 use Rattle.history_words.specs.declared.Numbers.{Numbers}
-use Rattle.history_words.specs.declared.Numbers.TheVariants as Numbers
 use Rattle.history_words.specs.Words.{sameb, word_end, part, numbers_at}
 use Rattle.history_lines.specs.declared.OfTwo.{OfTwo}
-use Rattle.history_lines.specs.declared.OfTwo.TheVariants as OfTwo
 use Rattle.history_lines.specs.declared.OfThree.{OfThree}
-use Rattle.history_lines.specs.declared.OfThree.TheVariants as OfThree
 use Rattle.history_lines.specs.declared.OfName.{OfName}
-use Rattle.history_lines.specs.declared.OfName.TheVariants as OfName
 use Rattle.history_lines.specs.declared.Named.{Named}
-use Rattle.history_lines.specs.declared.Named.TheVariants as Named
 use Rattle.history_lines.specs.declared.signed.SignedWrite.{SignedWrite}
-use Rattle.history_lines.specs.declared.signed.SignedWrite.TheVariants as SignedWrite
 use Rattle.history_lines.specs.Spelling.{found, two_words, three_words, name_words}
 use Rattle.history_lines.specs.Naming.{named_at}
 use Rattle.history_lines.specs.Signing.{signed_write_at}

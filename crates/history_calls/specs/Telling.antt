@@ -11,11 +11,8 @@ use Rattle.history_words.specs.Words.{sameb, word_end, part, numbers_at}
 use Rattle.history_lines.specs.declared.OfTwo.{OfTwo}
 use Rattle.history_lines.specs.declared.OfThree.{OfThree}
 use Rattle.history_lines.specs.declared.OfName.{OfName}
-use Rattle.history_lines.specs.declared.OfName.TheVariants as OfName
 use Rattle.history_lines.specs.declared.Named.{Named}
-use Rattle.history_lines.specs.declared.Named.TheVariants as Named
 use Rattle.history_lines.specs.declared.signed.SignedWrite.{SignedWrite}
-use Rattle.history_lines.specs.declared.signed.SignedWrite.TheVariants as SignedWrite
 use Rattle.history_lines.specs.Spelling.{found, name_words}
 use Rattle.history_lines.specs.Naming.{named_at}
 use Rattle.history_lines.specs.Signing.{signed_write_at}

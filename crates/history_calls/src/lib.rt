@@ -1,4 +1,6 @@
 // The call that a line asks for, made on the lent store and tables.
+#![tactic(auto)]
+
 ghost use Rattle.std.specs.Prelude.{◌≡◌, ◌≤◌, length};
 ghost use Rattle.answers.specs.Said.{said};
 ghost use Rattle.cells.specs.Outcomes.{lent};
@@ -6,16 +8,16 @@ ghost use Rattle.history_calls.specs.Calls.{two_call, three_call, alone_call, ca
 ghost use Rattle.history_calls.specs.Told.{told, told_of, reply_of};
 
 use answers::Answer;
+use by_name::named;
 use history_lines::{OfName, OfThree, OfTwo};
 use history_words::Numbers;
-use names::named;
 use signed::replied_signed;
 
-pub mod names; // lines with a name
+pub mod by_name; // lines with a name
 pub mod signed; // signed numbers, given and taken
 
 // What a line is answered by: a call, a line for tests, a line that is neither.
-#[derive(Drop)]
+#[derive(Clone, Copy)]
 pub enum Reply {
     Done(u32),
     DoneSigned(i32),

@@ -1,4 +1,6 @@
 // Every line of a history, over the buffers that it names: store, tables, and the others, which lie in one slice.
+#![tactic(auto)]
+
 ghost use Rattle.std.specs.Prelude.{◌≡◌, ◌≤◌, length};
 ghost use Rattle.history_calls.specs.Told.{told};
 ghost use Rattle.cells.specs.Outcomes.{lent};
@@ -34,7 +36,7 @@ fn call_line(
 {
     let word = history_lines::buffers::of_lent_word(&line[0..at]);
     let numbers = history_words::numbers_at(line, at);
-    let found = history_buffers::numbers::one_number(numbers);
+    let found = history_buffers::wanted::one_number(numbers);
     match word {
         OfLent::Save => history_lent::image_line(store, tables, others, lengths, found, true),
         OfLent::Load => history_lent::image_line(store, tables, others, lengths, found, false),

@@ -3,11 +3,11 @@ ghost use Rattle.std.specs.Prelude.{length};
 ghost use Rattle.history_faults.specs.Parts.{Within};
 
 use crate::beyond::first_beyond;
-use crate::numbers::{number_fault, signed_fault};
+use crate::number_faults::{number_fault, signed_fault};
 use crate::parts::{Part, word_after};
 use history_lines::Buffer;
 
-#[derive(Drop)]
+#[derive(Clone, Copy)]
 pub enum Fault {
     None,
     Missing, // no word
@@ -24,7 +24,7 @@ pub enum Fault {
 }
 
 // A fault, and the field of the form that it is about; no bytes where it is about none.
-#[derive(Drop)]
+#[derive(Clone, Copy)]
 pub struct Departure {
     pub fault: Fault,
     pub field: Part,

@@ -51,8 +51,8 @@ pub fn form_of(forms: &[u8], word: &[u8]) -> Part
 {
     let mut from = 0;
     while from < forms.len() {
-        let end = bytes::scan::find(forms, from, forms.len(), b';');
-        let to = bytes::scan::find(forms, from, end, b' ');
+        let end = history_words::scan::find(forms, from, forms.len(), b';');
+        let to = history_words::scan::find(forms, from, end, b' ');
         if history_words::same(&forms[from..to], word) {
             return Part { from, to: end };
         }

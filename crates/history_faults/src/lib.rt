@@ -1,9 +1,11 @@
 // What is wrong with a bad line, in words. The text of histories leaves them to each program, so no contract says which they are: proved is that
 // these functions end and do nothing undefined. histories/bad_lines.expected has the words for a line of each kind.
+#![tactic(auto)]
+
 pub mod text; // bytes put into a text
 mod parts; // words by their places
 mod forms; // the form of every line
-mod numbers; // what is wrong with a number
+mod number_faults; // what is wrong with a number
 mod beyond; // what is not there
 mod faults; // where a line departs from its form
 

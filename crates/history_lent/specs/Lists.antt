@@ -8,7 +8,6 @@ use Rattle.history_calls.specs.declared.Reply.{Reply}
 use Rattle.history_calls.specs.declared.Reply.TheVariants.{Bad, Rest, Filled}
 use Rattle.history_calls.specs.Told.{Told, told}
 use Rattle.history_words.specs.declared.Numbers.{Numbers}
-use Rattle.history_words.specs.declared.Numbers.TheVariants as Numbers
 use Rattle.history_buffers.specs.Buffers.{lent_of}
 use Rattle.history_lent.specs.Rooms.{list_buffer, last_list, others_length, first_list, list_start, other_at, with_other, before_rest, Lending, lending}
 

@@ -7,7 +7,6 @@ use Rattle.history_calls.specs.declared.Reply.{Reply}
 use Rattle.history_calls.specs.declared.Reply.TheVariants.{Bad}
 use Rattle.history_calls.specs.Told.{reply_of}
 use Rattle.history_words.specs.declared.Numbers.{Numbers}
-use Rattle.history_words.specs.declared.Numbers.TheVariants as Numbers
 use Rattle.history_buffers.specs.Buffers.{lent_of}
 use Rattle.history_lent.specs.Rooms.{image_buffer, last_image, others_length, first_image, image_start, other_at, with_other}
 

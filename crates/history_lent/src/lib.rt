@@ -1,4 +1,6 @@
 // The calls that are lent one buffer more beside store and tables: an image.
+#![tactic(auto)]
+
 ghost use Rattle.std.specs.Prelude.{◌≡◌};
 ghost use Rattle.history_lent.specs.Images.{image_call, image_line};
 ghost use Rattle.history_lent.specs.Rooms.{lending};

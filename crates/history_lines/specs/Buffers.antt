@@ -1,11 +1,8 @@
 -- The words of the lines that are no calls, the names of buffers, and the words of the calls that are lent images or lists, spelt as bytes. Assumes nothing.
 use Rattle.std.specs.Prelude.{ℕ, List, [], ◌∷◌}
 use Rattle.history_lines.specs.declared.OfBuffer.{OfBuffer}
-use Rattle.history_lines.specs.declared.OfBuffer.TheVariants as OfBuffer
 use Rattle.history_lines.specs.declared.Buffer.{Buffer}
-use Rattle.history_lines.specs.declared.Buffer.TheVariants as Buffer
 use Rattle.history_lines.specs.declared.OfLent.{OfLent}
-use Rattle.history_lines.specs.declared.OfLent.TheVariants as OfLent
 
 abbrev pub buffer_words : List (List ℕ × OfBuffer)
 buffer_words =

@@ -4,11 +4,8 @@ use Rattle.std.proofs.Math.Path.{refl}
 use Rattle.std.proofs.Common.{sym, ◌∙◌}
 use Rattle.history_words.specs.Words.{sameb}
 use Rattle.history_lines.specs.declared.OfTwo.{OfTwo}
-use Rattle.history_lines.specs.declared.OfTwo.TheVariants as OfTwo
 use Rattle.history_lines.specs.declared.OfThree.{OfThree}
-use Rattle.history_lines.specs.declared.OfThree.TheVariants as OfThree
 use Rattle.history_lines.specs.declared.OfName.{OfName}
-use Rattle.history_lines.specs.declared.OfName.TheVariants as OfName
 
 -- what stands beside a word in a table, or otherwise what is given
 module _ {A : Type 0} where

@@ -1,4 +1,6 @@
 // The words of histories, by what follows them, and lines with names.
+#![tactic(auto)]
+
 ghost use Rattle.std.specs.Prelude.{◌≡◌};
 ghost use Rattle.history_lines.specs.Spelling.{found, two_words, three_words, name_words};
 ghost use Rattle.history_lines.specs.declared.OfTwo.TheVariants as OfTwo;
@@ -12,7 +14,7 @@ pub mod buffers; // the words of buffers
 pub mod signed; // what follows the word of a signed write
 
 // The words that are followed by user and entry.
-#[derive(Drop)]
+#[derive(Clone, Copy)]
 pub enum OfTwo {
     Close,
     Public,
@@ -27,7 +29,7 @@ pub enum OfTwo {
 }
 
 // The words that are followed by user, entry and one number more.
-#[derive(Drop)]
+#[derive(Clone, Copy)]
 pub enum OfThree {
     Next,
     Prev,
@@ -42,7 +44,7 @@ pub enum OfThree {
 }
 
 // The words that are followed by user, entry and a name.
-#[derive(Drop)]
+#[derive(Clone, Copy)]
 pub enum OfName {
     Work,
     Read,
@@ -51,7 +53,7 @@ pub enum OfName {
 }
 
 // The words that are followed by a buffer, for tests.
-#[derive(Drop)]
+#[derive(Clone, Copy)]
 pub enum OfBuffer {
     Lend,
     Peek,
@@ -61,7 +63,7 @@ pub enum OfBuffer {
 }
 
 // The buffers of the lines that are no calls.
-#[derive(Drop)]
+#[derive(Clone, Copy)]
 pub enum Buffer {
     Store,
     Tables,
@@ -71,7 +73,7 @@ pub enum Buffer {
 }
 
 // The words of the calls to which a buffer is lent beside store and tables, an image, or a list for a run; and of those that are lent two images alone.
-#[derive(Drop)]
+#[derive(Clone, Copy)]
 pub enum OfLent {
     Save,
     Load,
@@ -83,7 +85,7 @@ pub enum OfLent {
 }
 
 // User and entry of a line with a name, and the place where the entry's word ends.
-#[derive(Drop)]
+#[derive(Clone, Copy)]
 pub enum Named {
     Is(u32, u32, usize),
     Bad,

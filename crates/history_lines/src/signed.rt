@@ -7,7 +7,7 @@ use history_words::NumberAt;
 use history_words::signed::SignedNumber;
 
 // User, entry, pointer and number.
-#[derive(Drop)]
+#[derive(Clone, Copy)]
 pub enum SignedWrite {
     Is(u32, u32, u32, i32),
     Bad,

@@ -1,14 +1,14 @@
 -- What loops over the bytes of a word use of its meaning. Assumes nothing.
-use Rattle.std.specs.Prelude.{ℕ, suc, ◌+◌, ◌*◌, ◌-◌, ◌≤◌, ◌<◌, ◌≡◌, refl, Bool, true, false, ◌&&◌, cond, List, [], ◌∷◌, leb, eqb, length, get_or, drop}
+use Rattle.std.specs.Prelude.{ℕ, suc, ◌+◌, ◌*◌, ◌-◌, ◌≤◌, ◌<◌, ◌≡◌, refl, Bool, true, false, ◌&&◌, cond, List, [], ◌∷◌, leb, eqb, length, get_or, take, drop}
 use Rattle.std.proofs.Math.Path.{sym}
 use Rattle.std.proofs.Common.{ap, ◌∙◌, arith, add-one, drop_of_length-le, drop-cons}
 use borrow.Author.Tests.{le-leb, lt-leb, eq-eqb, ne_eqb}
 use Rattle.std.proofs.Math.Seq.{take-length}
-use Rattle.bytes.specs.Bytes.{index_of, index_after, slice}
+use Rattle.std.proofs.lemmas.List.{get_or-take, length-take-le}
 use Rattle.names.specs.Names.{is_digit}
 use Rattle.history_words.specs.declared.Number.{Number}
 use Rattle.history_words.specs.declared.Number.TheVariants as number
-use Rattle.history_words.specs.Words.{sameb, digits_from, number_of, word_end}
+use Rattle.history_words.specs.Words.{sameb, digits_from, number_of, index_of, index_after, slice, word_end}
 
 -- ---- the digits from place i on, with those before worth v
 
@@ -69,6 +69,29 @@ module _ (w o : List ℕ) (i : ℕ) (long : length w ≡ length o) (whole : same
   pub same_end : length w ≤ i → true ≡ sameb w o
   unfolding sameb
   same_end l = sym (λ k. sameb (drop_of_length-le w l k) (drop_of_length-le o {i = i} (omega arith) k)) ∙ whole
+
+-- ---- the first byte b from place i on, before the place `to`
+
+module _ (l : List ℕ) (b i to : ℕ) where
+  slice-cons : i < to → to ≤ length l → slice i to l ≡ get_or l i 0 ∷ slice (suc i) to l
+  unfolding slice
+  slice-cons h k = drop-cons (take to l) i 0 (rw length-take-le h) ∙ ap (λ x. x ∷ drop (suc i) (take to l)) (get_or-take to l i 0 h)
+
+  at_slice : (d : Bool) → i < to → to ≤ length l → eqb (get_or l i 0) b ≡ d → index_of b (slice i to l) ≡ index_after d (index_of b (slice (suc i) to l))
+  unfolding index_of
+  at_slice d h k e = ap (index_of b) (slice-cons h k) ∙ ap (λ x. index_after x (index_of b (slice (suc i) to l))) e
+
+  pub found-here : i < to → to ≤ length l → get_or l i 0 ≡ b → index_of b (slice i to l) ≡ 0
+  unfolding index_after
+  found-here h k e = at_slice true h k (eq-eqb (get_or l i 0) b e)
+
+  pub not-here : i < to → to ≤ length l → (get_or l i 0 ≡ b → ⊥) → index_of b (slice i to l) ≡ suc (index_of b (slice (i + 1) to l))
+  unfolding index_after
+  not-here h k n = rw add-one (at_slice false h k (ne_eqb (get_or l i 0) b n))
+
+  pub none-left : to ≤ i → to ≤ length l → index_of b (slice i to l) ≡ 0
+  unfolding index_of slice
+  none-left h k = ap (index_of b) (drop_of_length-le (take to l) (rw length-take-le h))
 
 -- ---- the end of a word
 

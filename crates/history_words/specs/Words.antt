@@ -1,7 +1,6 @@
 -- Words and numbers of a line, as bytes: "Any other line is words parted by exactly one space." Assumes nothing.
-use Rattle.std.specs.Prelude.{ℕ, ◌+◌, ◌*◌, ◌-◌, Bool, true, false, ◌&&◌, ◌||◌, cond, List, [], ◌∷◌, leb, ltb, eqb, ℤ, pos, negsuc, ◌-ℤ◌, length, get_or, take, drop}
+use Rattle.std.specs.Prelude.{ℕ, suc, ◌+◌, ◌*◌, ◌-◌, Bool, true, false, ◌&&◌, ◌||◌, cond, List, [], ◌∷◌, leb, ltb, eqb, ℤ, pos, negsuc, ◌-ℤ◌, length, get_or, take, drop}
 use Rattle.std.specs.Int.Signed.{lt_z}
-use Rattle.bytes.specs.Bytes.{index_of}
 use Rattle.names.specs.Names.{is_digit}
 use Rattle.history_words.specs.declared.Number.{Number}
 use Rattle.history_words.specs.declared.Number.TheVariants as number
@@ -18,6 +17,19 @@ sameb [] [] = true
 sameb [] (b ∷ bs) = false
 sameb (a ∷ rest) [] = false
 sameb (a ∷ rest) (b ∷ bs) = eqb a b && sameb rest bs
+
+-- the place of the first byte b in a list, or the list's length: the head's if it is b, else one after that in the rest
+unfoldable pub index_after : (here : Bool) → ℕ → ℕ
+index_after true n = 0
+index_after false n = suc n
+
+unfoldable pub index_of : ℕ → List ℕ → ℕ
+index_of b [] = 0
+index_of b (x ∷ l) = index_after (eqb x b) (index_of b l)
+
+-- the bytes from a place up to another, the places counted from the list's first byte
+unfoldable pub slice : ℕ → ℕ → List ℕ → List ℕ
+slice from to l = drop from (take to l)
 
 -- the place of the first space from a place on, or of the line's end
 unfoldable pub word_end : List ℕ → ℕ → ℕ

@@ -1,25 +1,31 @@
 // Words and numbers of a line: "words parted by exactly one space".
+#![tactic(auto)]
+
 ghost use Rattle.std.specs.Prelude.{◌≡◌, ◌≤◌, length};
 ghost use Rattle.history_words.specs.Words.{sameb, word_end, digits_from, number_of, number_at, numbers_at, after_one, after_two, after_three};
 
+pub mod scan; // the first place of a byte
 pub mod signed; // signed numbers
 
+// A number has at most ten digits.
+const MOST_DIGITS: usize = 10;
+
 // A word read as a number.
-#[derive(Drop)]
+#[derive(Clone, Copy)]
 pub enum Number {
     Is(u32),
     Bad,
 }
 
 // The number that follows a place of the line, and the place where its word ends.
-#[derive(Drop)]
+#[derive(Clone, Copy)]
 pub enum NumberAt {
     Is(u32, usize),
     Bad,
 }
 
 // All numbers that follow a place of the line, up to its end.
-#[derive(Drop)]
+#[derive(Clone, Copy)]
 pub enum Numbers {
     Zero,
     One(u32),
@@ -52,7 +58,7 @@ pub fn word_end(line: &[u8], from: usize) -> usize
     ensures value { result ≡ word_end line.now from }
     ensures lower_bound { (from ≤ result) × (result ≤ length line.now) }
 {
-    bytes::scan::find(line, from, line.len(), 32)
+    scan::find(line, from, line.len(), 32)
 }
 
 // The number that the digits make: "0 to 4294967295".
@@ -86,7 +92,7 @@ pub fn number_of(word: &[u8]) -> Number
     if word.len() == 0 {
         return Number::Bad;
     }
-    if 10 < word.len() {
+    if MOST_DIGITS < word.len() {
         return Number::Bad;
     }
     digits(word)

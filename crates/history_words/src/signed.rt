@@ -5,7 +5,7 @@ ghost use Rattle.history_words.specs.Words.{in_range, with_sign, signed_number_o
 use crate::Number;
 
 // A word read as a signed number.
-#[derive(Drop)]
+#[derive(Clone, Copy)]
 pub enum SignedNumber {
     Is(i32),
     Bad,

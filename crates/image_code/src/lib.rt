@@ -1,4 +1,6 @@
 // The catalogue image of the tables, and the tables of a catalogue image, in either form.
+#![tactic(auto)]
+
 ghost use Rattle.std.specs.Prelude.{◌≡◌, true, ◌++◌, ◌+◌, ◌-◌, ◌*◌, ◌/◌, ◌^◌, ◌≤◌, ◌<◌, eqb, length, get_or, take, drop, replicate};
 ghost use Rattle.combine.specs.Below.{all_below};
 ghost use Rattle.combine.specs.Lists.{joined, tab};

@@ -1,4 +1,6 @@
 // Whether an image is sound, and the tables that it gives.
+#![tactic(auto)]
+
 ghost use Rattle.std.specs.Prelude.{◌≡◌, true, length, replicate};
 ghost use Rattle.placing.specs.Sizes.{tables_length};
 ghost use Rattle.image.specs.Image.{imageb, tables_from};

@@ -1,4 +1,6 @@
 // Moves carried out: the cells of each from go to its to, and the records list them there.
+#![tactic(auto)]
+
 ghost use Rattle.std.specs.Prelude.{true, map, ◌≡◌, ℕ, ◌+◌, ◌*◌, ◌<◌, ◌≤◌, get_or, length};
 ghost use Rattle.placing.specs.Sizes.{most_segments, places, segment_cells, tables_length};
 ghost use Rattle.tables.specs.Layout.{record_at, segments_in};

@@ -1,4 +1,6 @@
 // Which segments go where: the numbers of those that are to move, rising, paired with the numbers of those that can take them, rising.
+#![tactic(auto)]
+
 ghost use Rattle.std.specs.Prelude.{true, ◌≡◌, ◌*◌, ◌<◌, ◌≤◌, length};
 ghost use Rattle.std.proofs.Math.Seq.{paste};
 ghost use Rattle.combine.specs.Below.{count_below, picked};

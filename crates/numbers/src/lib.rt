@@ -1,4 +1,6 @@
 // The numbers that elements stand for: plain ones, and signed ones "from -32,768 to 32,767 in 16 bits" (document 02, P5).
+#![tactic(auto)]
+
 ghost use Rattle.std.specs.Prelude.{◌≡◌, ◌≤◌, ◌^◌, leb};
 ghost use Rattle.placing.specs.Sizes.{greatest_species, width_of};
 ghost use Rattle.numbers.specs.Numbers.{signed_of, signed_bits, out_of_range, is_foreign, is_signed, too_wide, bits_of};
@@ -6,7 +8,7 @@ ghost use Rattle.numbers.specs.Numbers.{signed_of, signed_bits, out_of_range, is
 use placing::SIGNED_SPECIES;
 
 // A number as a write is given it.
-#[derive(Drop)]
+#[derive(Clone, Copy)]
 pub enum Number {
     Plain(u32),
     Signed(i32),

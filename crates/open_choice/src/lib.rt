@@ -1,4 +1,6 @@
 // Which record an opening by name is of, or why it is refused: "15, 11/12/13, 14 (old)", of which document 02's P4 took the 12.
+#![tactic(auto)]
+
 ghost use Rattle.std.specs.Prelude.{◌≡◌, true, not, ◌&&◌, ◌<◌, eqb, length};
 ghost use Rattle.std.proofs.Math.Option.{some};
 ghost use Rattle.placing.specs.Sizes.{places, tables_length};
@@ -18,7 +20,7 @@ use tables::layout;
 const FIRST_OWNER: usize = RECORDS_START + layout::RECORD_OWNER;
 
 // The place of the record, or the refusal.
-#[derive(Drop)]
+#[derive(Clone, Copy)]
 pub enum Choice {
     No(Refusal),
     At(usize),

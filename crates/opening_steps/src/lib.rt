@@ -1,4 +1,6 @@
 // Openings by value: what they hold, and the first or the last element leaves.
+#![tactic(auto)]
+
 ghost use Rattle.std.specs.Prelude.{◌≡◌, [], ◌∷◌, ◌++◌, ◌≤◌, ◌<◌, drop};
 ghost use Rattle.placing.specs.Sizes.{most_held};
 ghost use Rattle.placing.specs.Placing.{segment, held_of, slot_of};

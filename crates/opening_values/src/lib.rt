@@ -1,5 +1,7 @@
 // Openings and records by value, as the calls make them: a new opening, one of a record, a closed entry, an unused record,
 // and the record that an opening becomes.
+#![tactic(auto)]
+
 ghost use Rattle.std.specs.Prelude.{◌≡◌, not, ◌<◌};
 ghost use Rattle.placing.specs.Sizes.{places};
 ghost use Rattle.rules.specs.Rules.{work_start};

@@ -1,4 +1,5 @@
 // Elements of 1 to 32 bits in a cell of 32, most significant first.
+#![tactic(auto)]
 
 ghost use Rattle.std.specs.Prelude.{◌≡◌, ◌+◌, ◌≤◌};
 ghost use Rattle.packing.specs.Packing.{take_bits, put_bits};

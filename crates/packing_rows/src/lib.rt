@@ -1,10 +1,12 @@
 // Numbers of 1 to 32 bits, one after the other, in a row of cells: most significant first, across a cell's end too.
+#![tactic(auto)]
+
 ghost use Rattle.std.specs.Prelude.{◌≡◌, ℕ, ◌+◌, ◌-◌, ◌*◌, ◌/◌, ◌^◌, ◌≤◌, ◌<◌, length, get_or, take};
 ghost use Rattle.packing.specs.Packing.{row_of, cells_of, sum, packed, unpacked};
 ghost use Rattle.packing_rows.specs.Waiting.{Narrow, Fitting, Begun, Packs, Unpacks};
 
 // Bits that wait between the numbers and the cells, as one number, and which of the numbers comes next.
-#[derive(Drop)]
+#[derive(Clone, Copy)]
 struct Waiting {
     number: u64,
     bits: u32,

@@ -1,5 +1,7 @@
 // "Segment numbers, positions and cell numbers are different kinds of number and are never to be mixed": each is a struct with a
 // private field, and one is made of another by the placing rules alone.
+#![tactic(auto)]
+
 ghost use Rattle.std.specs.Prelude.{◌≡◌, ◌≤◌, ◌<◌, ◌*◌};
 ghost use Rattle.placing.specs.Sizes.{segment_cells, most_held, greatest_end, greatest_species, width_of, elements_of, least_elements};
 ghost use Rattle.placing.specs.Placing.{
@@ -80,15 +82,15 @@ pub const GREATEST_END: u32 = 4294967295;
 pub const MOST_HELD: u32 = 32;
 
 // The number of a segment of the store.
-#[derive(Drop)]
+#[derive(Clone, Copy)]
 pub struct Segment(u32);
 
 // A position of a file; in a pointer's place, 0 is no pointer.
-#[derive(Drop)]
+#[derive(Clone, Copy)]
 pub struct Position(u32);
 
 // The number of a cell of the store.
-#[derive(Drop)]
+#[derive(Clone, Copy)]
 pub struct Cell(usize);
 
 pub fn width(species: u32) -> u32

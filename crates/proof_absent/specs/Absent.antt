@@ -18,7 +18,8 @@ use Rattle.rules.specs.Readable.{may_read, only, readable_by}
 use Rattle.rules.specs.Rules.{look_up, open_record, open_old, open_way}
 use Rattle.rules.specs.Levels.{ruled, or_blank}
 use Rattle.rules.specs.Laws.Gates.{gate-related}
-use Rattle.rules.specs.Laws.Readable.{may_read_at, only_kept, way-absent}
+use Rattle.rules.specs.Laws.Readable.{may_read_at}
+use Rattle.rules.proofs.Laws.Readable.{only_kept, way-absent}
 use Rattle.model.specs.Model.{Body, File, Files, Model, model, model_level}
 use Rattle.model.specs.Step.{perform_on_model, request_on_model}
 use Rattle.demands.specs.History.{view_on}

@@ -10,7 +10,8 @@ use Rattle.rules.specs.Headings.{Heading, head_of}
 use Rattle.rules.specs.House.{others_of}
 use Rattle.rules.specs.Levels.{ruled}
 use Rattle.rules.specs.Readable.{asks_for}
-use Rattle.rules.specs.Laws.Readable.{NoneThere, way-hides}
+use Rattle.rules.specs.Laws.Readable.{NoneThere}
+use Rattle.rules.proofs.Laws.Readable.{way-hides}
 use Rattle.segments.specs.Free.{SegmentOpening}
 use Rattle.segments.specs.Deeds.{segment_level}
 use Rattle.cells.specs.Says.{house_of}

@@ -9,7 +9,8 @@ use Rattle.combine.specs.Laws.Outcome.{settle-refuses}
 use Rattle.combine.specs.Laws.Run.{run-stopped, admitted-stopped}
 use Rattle.rules.specs.Calls.{Request, Start, fresh, load, Question, save, count, Arranging, tidy, Run, Call, starts, asks, arranges, on, runs}
 use Rattle.rules.specs.Runs.{requests_of, admission, run_answer}
-use Rattle.rules.specs.Laws.Refusals.{Not12, user-gate-spares, start-gate-spares, image-gate-spares, still-gate-spares, ruled-spares, admission-spares}
+use Rattle.rules.specs.Laws.Refusals.{Not12}
+use Rattle.rules.proofs.Laws.Refusals.{user-gate-spares, start-gate-spares, image-gate-spares, still-gate-spares, ruled-spares, admission-spares}
 use Rattle.segments.specs.Deeds.{segment_level}
 use Rattle.cells.specs.Says.{house_of}
 use Rattle.cells.specs.Outcomes.{Lent, sound_lent, request_out, run_out, free_out, fresh_out, load_out, save_out, tidy_out, start_out, ask_out, arrange_out, call_out, call_run}

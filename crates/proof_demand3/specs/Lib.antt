@@ -5,17 +5,11 @@ pub mod Another
 pub mod Own
 pub mod Runs
 pub mod Steps
-pub mod Beside
-pub mod Histories
-pub mod Demand3
-pub mod Premises
 pub mod Started
 pub mod Answers
-pub mod Told
 pub mod ButOne
 pub mod Needed9
 pub mod Needed14
-pub mod ExceptedTidying
 pub mod NeededRun
 pub mod SavedImage
 pub mod NeededLoad

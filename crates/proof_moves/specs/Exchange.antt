@@ -89,6 +89,10 @@ not-from (a ∷ b ∷ l) g n =
     let s = not-from l g (nor-second (eqb g b) (is_in g l) (nor-second (eqb g a) (eqb g b || is_in g l) n)) in
     rw (false_of (eqb g a) (nor-first (eqb g a) (eqb g b || is_in g l) n)) s
 
+-- a number that is neither of the first two is exchanged by the rest
+past : (a b : ℕ) (l : List ℕ) (g : ℕ) → g ≢ a → g ≢ b → exchange (a ∷ b ∷ l) g ≡ exchange l g
+past a b l g d k = rw (eqb-ne g a d, eqb-ne g b k) refl
+
 -- a from becomes a to, and a to a from
 pub from_goes : (l : List ℕ) (g : ℕ) → T (none_twice l) → T (is_in g (froms l)) → T (is_in (exchange l g) (tos l))
 from_goes [] g o t = absurd t
@@ -104,7 +108,7 @@ from_goes (a ∷ b ∷ l) g o t = go (ℕ_discrete g a) (ℕ_discrete g b) (from
     go : Dec (g ≡ a) → Dec (g ≡ b) → (T (none_twice l) → T (is_in g (froms l)) → T (is_in (exchange l g) (tos l))) → T (is_in (exchange (a ∷ b ∷ l) g) (b ∷ tos l))
     go (yes e) q ih = rw (eqb-eq g a e) (rw (eqb-eq b b refl) tt)
     go (no d) (yes e) ih = absurd (T_not (is_in g (froms l)) (not-from l g (subst (λ (k : ℕ). T (not (is_in k l))) (sym e) (and_first (not (is_in b l)) (none_twice l) outs))) (in_rest d))
-    go (no d) (no k) ih = rw (eqb-ne g a d, eqb-ne g b k)
+    go (no d) (no k) ih = subst (λ (n : ℕ). T (is_in n (b ∷ tos l))) (sym (past a b l g d k))
         (or-second (eqb (exchange l g) b) (is_in (exchange l g) (tos l)) (ih (and_second (not (is_in b l)) (none_twice l) outs) (in_rest d)))
 
 pub to-goes : (l : List ℕ) (g : ℕ) → T (none_twice l) → T (is_in g (tos l)) → T (is_in (exchange l g) (froms l))
@@ -123,7 +127,7 @@ to-goes (a ∷ b ∷ l) g o t = go (ℕ_discrete g a) (ℕ_discrete g b) (to-goe
         (λ r. T_not (eqb a b) (nor-first (eqb a b) (is_in a l) out_a) (subst (λ (k : ℕ). T (eqb k b)) e r))
         (λ r. T_not (is_in g (tos l)) (not-to l g (subst (λ (k : ℕ). T (not (is_in k l))) (sym e) (nor-second (eqb a b) (is_in a l) out_a))) r))
     go (no d) (yes e) ih = rw (eqb-ne g a d, eqb-eq g b e) (rw (eqb-eq a a refl) tt)
-    go (no d) (no k) ih = rw (eqb-ne g a d, eqb-ne g b k)
+    go (no d) (no k) ih = subst (λ (n : ℕ). T (is_in n (a ∷ froms l))) (sym (past a b l g d k))
         (or-second (eqb (exchange l g) a) (is_in (exchange l g) (froms l))
         (ih (and_second (not (is_in b l)) (none_twice l) outs) (or_split (eqb g b) (is_in g (tos l)) t (λ e. absurd (k (eqb→eq g b e))) (λ r. r))))
 

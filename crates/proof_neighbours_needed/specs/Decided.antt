@@ -23,7 +23,7 @@ use Rattle.proof_examples.specs.Known.{blind, looks, no_lookb, told-blind, after
 use Rattle.proof_demand3.specs.Started.{started_over, started-known}
 use Rattle.demands.specs.Private.{is_of}
 use Rattle.proof_neighbours.specs.Neighbours.{heard_by, public_at, opens_public, QuietStart, Apart, NeighboursBy}
-use Rattle.proof_neighbours.specs.Cells.{opens-seen}
+use Rattle.proof_neighbours.proofs.Cells.{opens-seen}
 
 -- ---- what the landlord hears
 

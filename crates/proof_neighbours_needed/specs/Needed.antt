@@ -18,7 +18,7 @@ use Rattle.proof_demand3.specs.Started.{started_over, started-sound, started-kno
 use Rattle.proof_examples.specs.Known.{known_after, final-known}
 use Rattle.proof_demand3.specs.Answers.{heard_at, numbers-differ}
 use Rattle.proof_neighbours.specs.Neighbours.{openly, QuietStart, hinders, hindered, NeighboursBy}
-use Rattle.proof_neighbours.specs.Cells.{openly-view}
+use Rattle.proof_neighbours.proofs.Cells.{openly-view}
 use Rattle.proof_neighbours_needed.specs.Decided.{heard_known, refuted, quiet-started}
 
 -- ---- the premises but one

@@ -13,7 +13,7 @@ use Rattle.proof_demand3.specs.Started.{started_over, started-sound, started-kno
 use Rattle.proof_demand3.specs.Answers.{heard_at}
 use Rattle.demands.specs.Private.{is_of}
 use Rattle.proof_neighbours.specs.Neighbours.{openly, QuietStart, NeighboursBy}
-use Rattle.proof_neighbours.specs.Cells.{openly-view}
+use Rattle.proof_neighbours.proofs.Cells.{openly-view}
 use Rattle.proof_neighbours_needed.specs.Decided.{heard_known, all_apart, refuted, quiet-started}
 use Rattle.proof_neighbours_needed.specs.Needed.{hindered_by, otherwise}
 

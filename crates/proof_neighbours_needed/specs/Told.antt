@@ -19,8 +19,8 @@ use Rattle.proof_demand3.specs.Steps.{answered_in}
 use Rattle.proof_demand3.specs.Started.{started_over, started-sound, started-known}
 use Rattle.demands.specs.Private.{is_of}
 use Rattle.proof_neighbours.specs.Neighbours.{heard_by, openly, hinders, hindered, Apart}
-use Rattle.proof_neighbours.specs.Cells.{openly-view}
-use Rattle.proof_neighbours.specs.Proved.{neighbours}
+use Rattle.proof_neighbours.proofs.Cells.{openly-view}
+use Rattle.proof_neighbours.proofs.Proved.{neighbours}
 use Rattle.proof_neighbours_needed.specs.Decided.{heard_known, heard-known, all_apart, each-apart, quiet-started}
 
 -- ---- A's calls, part by part

@@ -13,7 +13,8 @@ use Rattle.rules.specs.Headings.{Heading, Handle, passes, is_some}
 use Rattle.rules.specs.Effects.{Use, Effect, opens_new, opens_old, ended, unfiled, filed, used, Others}
 use Rattle.rules.specs.Access.{acting}
 use Rattle.rules.specs.Readable.{may_read}
-use Rattle.rules.specs.Laws.Readable.{may_read_at, look-up-read}
+use Rattle.rules.specs.Laws.Readable.{may_read_at}
+use Rattle.rules.proofs.Laws.Readable.{look-up-read}
 use Rattle.rules.specs.Rules.{is_own, is_public, look_up, opened_as, busy, open_record, open_old, open_new, headed, without, place_for, vanish, close_rule, rule, new_handle}
 use Rattle.combine.specs.Laws.Tests.{not-not, nor-first, nor-second, and_first, and_second, nand-second}
 use Rattle.combine.specs.Laws.Replaced.{first-where, place-below}

@@ -35,7 +35,7 @@ effect-allowed s r u h x f e =
 allowed-keeps-sound : (s : List ℕ) (u e : ℕ) (h : SegmentHouse) → SoundHouse h → u ≤ greatest_user → e ≤ greatest_entry
     → (x : Option SegmentOpening) → get_or h.openings (entry_of u e) none ≡ x → (f : Effect) → AllowedAt u h s x f
     → SoundHouse (changed h (entry_of u e) (perform (segment_level s) h (or_blank (segment_level s) x) f))
-allowed-keeps-sound s u e h sound hu he none ix f a = opens-sound h sound (entry_of u e) (omega arith) u (omega arith) s _ f a
+allowed-keeps-sound s u e h sound hu he none ix f a = opens-sound h sound (entry_of u e) (omega arith) u (omega arith) s (or_blank (segment_level s) none) f a
 allowed-keeps-sound s u e h sound hu he (some x) ix f a = handles-sound h sound (entry_of u e) (omega arith) x ix u hu s f a
 
 pub effect-keeps-sound : (s : List ℕ) (r : Request) (u e : ℕ) (h : SegmentHouse) → SoundHouse h → u ≤ greatest_user → e ≤ greatest_entry → (f : Effect)

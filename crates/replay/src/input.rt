@@ -3,6 +3,7 @@ ghost use Rattle.std.specs.Prelude.{◌≤◌, length};
 
 use crate::output;
 use history_buffers::BUFFERS;
+use std::io;
 
 // How many bytes of a line are kept as they are. A longer line can only be one with a name, or one that is none.
 const WHOLE: usize = 256;
@@ -16,7 +17,7 @@ pub const OUT: usize = 65536;
 const ANSWER: usize = 1024;
 
 // How much stands in the line and in the text of the answers, and how many cells of each buffer are lent.
-#[derive(Drop)]
+#[derive(Clone, Copy)]
 pub struct Filled {
     pub line: usize,
     pub out: usize,
@@ -51,14 +52,15 @@ fn line_end(line: &[u8], n: usize) -> usize
 }
 
 // A line that has ended.
-fn answer(
+fn answer<W: io::Write>(
+    writer: &mut W,
     store: &mut [u32],
     tables: &mut [u32],
     others: &mut [u32],
     line: &[u8],
     out: &mut [u8],
     filled: Filled,
-) -> Filled {
+) -> io::Result<Filled> {
     let n = line_end(line, filled.line);
     let lengths = filled.lengths;
     let told = history_desk::answer(store, tables, others, lengths, &line[0..n]);
@@ -66,22 +68,23 @@ fn answer(
     let changed = told.lengths;
     let next = output::say(out, filled.out, reply, &line[0..n]);
     if OUT - ANSWER < next {
-        output::flush(out, next);
-        return Filled {
+        output::flush(writer, out, next)?;
+        return Ok(Filled {
             line: 0,
             out: 0,
             lengths: changed,
-        };
+        });
     }
-    Filled {
+    Ok(Filled {
         line: 0,
         out: next,
         lengths: changed,
-    }
+    })
 }
 
 // One byte of input: kept in the line, or the line's end.
-pub fn take_byte(
+pub fn take_byte<W: io::Write>(
+    writer: &mut W,
     store: &mut [u32],
     tables: &mut [u32],
     others: &mut [u32],
@@ -89,19 +92,20 @@ pub fn take_byte(
     out: &mut [u8],
     byte: u8,
     filled: Filled,
-) -> Filled {
+) -> io::Result<Filled> {
     if byte == b'\n' {
-        return answer(store, tables, others, line, out, filled);
+        return answer(writer, store, tables, others, line, out, filled);
     }
     let lengths = filled.lengths;
-    Filled {
+    Ok(Filled {
         line: keep(line, filled.line, byte),
         out: filled.out,
         lengths,
-    }
+    })
 }
 
-pub fn take_bytes(
+pub fn take_bytes<W: io::Write>(
+    writer: &mut W,
     store: &mut [u32],
     tables: &mut [u32],
     others: &mut [u32],
@@ -109,12 +113,12 @@ pub fn take_bytes(
     out: &mut [u8],
     input: &[u8],
     from: Filled,
-) -> Filled {
+) -> io::Result<Filled> {
     let mut filled = from;
     let mut i: usize = 0;
     while i < input.len() {
-        filled = take_byte(store, tables, others, line, out, input[i], filled);
+        filled = take_byte(writer, store, tables, others, line, out, input[i], filled)?;
         i += 1;
     }
-    filled
+    Ok(filled)
 }

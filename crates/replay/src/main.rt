@@ -1,96 +1,116 @@
 // Reads a history from standard input, of any length, and writes the answers: input and output alone, for what a line means stands in `history_desk`.
+#![tactic(auto)]
+
 mod input; // bytes gathered into lines
 mod output; // the answers
 
 use history_lent::sizes;
 use input::Filled;
-use libc::STDIN_FILENO;
+use std::io;
 
-#[derive(Drop)]
+// How many bytes one read brings at most.
+const BROUGHT: usize = 65536;
+
+#[derive(Clone, Copy)]
 enum Turn {
     More,
     End,
 }
 
-#[derive(Drop)]
+#[derive(Clone, Copy)]
 struct Read {
     turn: Turn,
     filled: Filled,
 }
 
 // One read: the answers to what it brought are written before the next.
-fn one_read(
+fn one_read<R: io::Read, W: io::Write>(
+    reader: &mut R,
+    writer: &mut W,
     store: &mut [u32],
     tables: &mut [u32],
     others: &mut [u32],
     line: &mut [u8],
     out: &mut [u8],
     filled: Filled,
-) -> Read {
-    let mut brought = io::large_buffer();
-    let got = libc::read(STDIN_FILENO, &mut brought);
-    if got <= 0 {
-        return Read {
+) -> io::Result<Read> {
+    let mut brought = [0u8; BROUGHT];
+    let n = reader.read(&mut brought)?;
+    if n == 0 {
+        return Ok(Read {
             turn: Turn::End,
             filled,
-        };
+        });
     }
-    let n = io::count(got, &brought);
-    let next = input::take_bytes(store, tables, others, line, out, &brought[..n], filled);
+    let next = input::take_bytes(
+        writer,
+        store,
+        tables,
+        others,
+        line,
+        out,
+        &brought[..n],
+        filled,
+    )?;
     let kept = next.line;
     let lengths = next.lengths;
-    output::flush(out, next.out);
-    Read {
+    output::flush(writer, out, next.out)?;
+    Ok(Read {
         turn: Turn::More,
         filled: Filled {
             line: kept,
             out: 0,
             lengths,
         },
-    }
+    })
 }
 
 // Reads until there is nothing more.
-fn read_all(
+fn read_all<R: io::Read, W: io::Write>(
+    reader: &mut R,
+    writer: &mut W,
     store: &mut [u32],
     tables: &mut [u32],
     others: &mut [u32],
     line: &mut [u8],
     out: &mut [u8],
     from: Filled,
-) -> Filled {
+) -> io::Result<Filled> {
     let mut filled = from;
     let mut turns = u64::MAX;
     while turns > 0 {
         turns -= 1;
-        let read = one_read(store, tables, others, line, out, filled);
+        let read = one_read(reader, writer, store, tables, others, line, out, filled)?;
         filled = read.filled;
         let turn = read.turn;
         match turn {
             Turn::More => {}
-            Turn::End => return filled,
+            Turn::End => return Ok(filled),
         }
     }
-    filled
+    Ok(filled)
 }
 
 // "the last one may lack" its newline
-fn finish(
+fn finish<W: io::Write>(
+    writer: &mut W,
     store: &mut [u32],
     tables: &mut [u32],
     others: &mut [u32],
     line: &mut [u8],
     out: &mut [u8],
     filled: Filled,
-) {
+) -> io::Result<()> {
     if filled.line == 0 {
-        return;
+        return Ok(());
     }
-    let end = input::take_byte(store, tables, others, line, out, b'\n', filled);
-    output::flush(out, end.out);
+    let end = input::take_byte(writer, store, tables, others, line, out, b'\n', filled)?;
+    output::flush(writer, out, end.out)
 }
 
-fn main() {
+fn main(rt: HostRuntime) -> io::Result<()> {
+    let mut reader = rt.stdin();
+    let mut writer = rt.stdout();
     let mut store = [0u32; sizes::STORE_BUFFER];
     let mut tables = [0u32; sizes::TABLES_BUFFER];
     let mut others = [0u32; sizes::OTHERS_BUFFER];
@@ -103,19 +123,22 @@ fn main() {
         lengths,
     };
     let filled = read_all(
+        &mut reader,
+        &mut writer,
         &mut store,
         &mut tables,
         &mut others,
         &mut line,
         &mut out,
         start,
-    );
+    )?;
     finish(
+        &mut writer,
         &mut store,
         &mut tables,
         &mut others,
         &mut line,
         &mut out,
         filled,
-    );
+    )
 }

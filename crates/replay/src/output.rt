@@ -1,13 +1,13 @@
 // The answers, put into a text and written to standard output.
 use history_calls::Reply;
 use history_faults::text::append;
-use libc::STDOUT_FILENO;
+use itoa::Buffer;
+use std::io;
 
 fn say_number(out: &mut [u8], at: usize, word: &[u8], n: u32) -> usize {
-    let mut decimal = [0u8; 20];
-    let k = io::decimal(n as u64, &mut decimal);
+    let mut decimal = Buffer::new();
     let from = append(out, at, word);
-    let to = append(out, from, &decimal[..k]);
+    let to = append(out, from, decimal.format(n).as_bytes());
     append(out, to, b"\n")
 }
 
@@ -28,10 +28,9 @@ fn say_signed(out: &mut [u8], at: usize, n: i32) -> usize {
 }
 
 fn say_two(out: &mut [u8], at: usize, word: &[u8], n: u32, m: u32) -> usize {
-    let mut decimal = [0u8; 20];
-    let k = io::decimal(n as u64, &mut decimal);
+    let mut decimal = Buffer::new();
     let from = append(out, at, word);
-    let to = append(out, from, &decimal[..k]);
+    let to = append(out, from, decimal.format(n).as_bytes());
     say_number(out, to, b" ", m)
 }
 
@@ -52,8 +51,9 @@ pub fn say(out: &mut [u8], at: usize, reply: Reply, line: &[u8]) -> usize {
 }
 
 // Writes the first n bytes of the text.
-pub fn flush(out: &[u8], n: usize) {
+pub fn flush<W: io::Write>(writer: &mut W, out: &[u8], n: usize) -> io::Result<()> {
     if n <= out.len() {
-        io::write_all(STDOUT_FILENO, &out[0..n]);
+        writer.write_all(&out[0..n])?;
     }
+    Ok(())
 }

@@ -1,4 +1,6 @@
 // The elements of a run that lie in one segment, which the opening holds alone.
+#![tactic(auto)]
+
 ghost use Rattle.std.specs.Prelude.{◌≡◌, ◌+◌, ◌*◌, ◌≤◌, ◌<◌, length};
 ghost use Rattle.placing.specs.Sizes.{segment_cells, greatest_species, tables_length, entries};
 ghost use Rattle.run_spans.specs.Ahead.{Follow, Fits};

@@ -1,4 +1,6 @@
 // How far a run goes on within one stretch.
+#![tactic(auto)]
+
 ghost use Rattle.std.specs.Prelude.{◌+◌, ◌≤◌, ◌<◌, length, ◌≡◌, true};
 ghost use Rattle.placing.specs.Sizes.{greatest_species, greatest_end};
 ghost use Rattle.run_spans.specs.Ahead.{Ahead, Fewer, Fitting};

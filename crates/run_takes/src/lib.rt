@@ -1,4 +1,6 @@
 // The elements that a run takes from one stretch: how many, and they are taken.
+#![tactic(auto)]
+
 ghost use Rattle.std.specs.Prelude.{◌≡◌, ◌+◌, ◌*◌, ◌≤◌, ◌<◌, length, set};
 ghost use Rattle.std.proofs.Math.Seq.{paste};
 ghost use Rattle.placing.specs.Sizes.{segment_cells, greatest_species, tables_length, entries};

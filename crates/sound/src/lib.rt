@@ -1,4 +1,6 @@
 // Whether lent cells are sound tables.
+#![tactic(auto)]
+
 ghost use Rattle.std.specs.Prelude.{◌≡◌};
 ghost use Rattle.tables.specs.Sound.{numberb, soundb};
 

@@ -1,4 +1,6 @@
 // Whether two records have names that clash, told by their keys.
+#![tactic(auto)]
+
 ghost use Rattle.std.specs.Prelude.{◌≡◌, true, ◌+◌, ◌<◌, length};
 ghost use Rattle.placing.specs.Sizes.{record_length};
 ghost use Rattle.tables.specs.Layout.{record_of, record_at};

@@ -1,4 +1,6 @@
 // What a record's cells and an opening's have in common: an extent, and a list of segments.
+#![tactic(auto)]
+
 ghost use Rattle.std.specs.Prelude.{◌≡◌, map, ◌≤◌, length};
 ghost use Rattle.placing.specs.Sizes.{most_held};
 ghost use Rattle.placing.specs.Placing.{segment};

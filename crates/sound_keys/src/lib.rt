@@ -1,4 +1,6 @@
 // Keys of names: numbers by which the records are told apart fast. They stand in no promise; soundness speaks of names.
+#![tactic(auto)]
+
 ghost use Rattle.std.specs.Prelude.{◌≡◌, ◌-◌, ◌≤◌, ◌<◌, length};
 ghost use Rattle.placing.specs.Sizes.{places, record_length};
 ghost use Rattle.tables.specs.Layout.{record_of};

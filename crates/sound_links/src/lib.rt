@@ -1,4 +1,6 @@
 // Whether an opening and its record go together: an opening and a record are rows of the tables' cells.
+#![tactic(auto)]
+
 ghost use Rattle.std.specs.Prelude.{◌≡◌, ◌<◌, length};
 ghost use Rattle.combine.specs.Below.{all_below};
 ghost use Rattle.placing.specs.Sizes.{entries, tables_length, record_length, opening_length};

@@ -1,4 +1,4 @@
--- The lists pass the test of distinctness if they are distinct; the other way is `Distinct-of` of the crate `tables`. Assumes nothing.
+-- The lists pass the test of distinctness if they are distinct; the other way is `distinct_of` of the crate `tables`. Assumes nothing.
 use Rattle.std.specs.Prelude.{ℕ, ◌≡◌, Bool, ◌&&◌, List}
 use Rattle.std.proofs.Math.Path.{refl}
 use Rattle.std.proofs.Math.Bool.{true, false, cond}

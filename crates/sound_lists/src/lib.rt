@@ -1,5 +1,7 @@
 // Whether the segments in all lists are distinct: each list marks its own segments, without a test, and they are distinct exactly
 // if as many marks stand as were set.
+#![tactic(auto)]
+
 ghost use Rattle.std.specs.Prelude.{◌≡◌, true, ◌+◌, ◌*◌, ◌<◌};
 ghost use Rattle.placing.specs.Sizes.{places, entries, most_held, lists};
 ghost use Rattle.tables.specs.Lists.{distinctb};

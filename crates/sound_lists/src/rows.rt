@@ -12,7 +12,7 @@ use placing::{OPENING_LENGTH, OPENINGS_START, Position, RECORD_LENGTH, RECORDS_S
 use tables::layout;
 
 // So many cells of the tables from `start` on; `first` is the stretch of the first segment, and the others follow.
-#[derive(Drop)]
+#[derive(Clone, Copy)]
 pub struct Row {
     pub start: usize,
     pub held: usize,

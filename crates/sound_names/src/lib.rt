@@ -1,4 +1,6 @@
 // "No two records of one owner have one name; no two public records have one name."
+#![tactic(auto)]
+
 ghost use Rattle.std.specs.Prelude.{◌≡◌, true, ℕ, ◌+◌, ◌<◌, length};
 ghost use Rattle.combine.specs.Below.{all_below};
 ghost use Rattle.placing.specs.Sizes.{places, tables_length};

@@ -1,4 +1,6 @@
 // Whether the openings in lent cells are sound: an opening is a row of the tables' cells.
+#![tactic(auto)]
+
 ghost use Rattle.std.specs.Prelude.{◌≡◌, ◌<◌, length};
 ghost use Rattle.placing.specs.Sizes.{entries, tables_length, name_symbols, opening_length};
 ghost use Rattle.tables.specs.Layout.{opening_of};

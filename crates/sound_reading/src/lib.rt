@@ -1,4 +1,6 @@
 // Whether a read opening is as its record: an opening and a record are rows of the tables' cells.
+#![tactic(auto)]
+
 ghost use Rattle.std.specs.Prelude.{◌≡◌, ◌||◌, eqb, length};
 ghost use Rattle.placing.specs.Sizes.{user_of, record_length, opening_length};
 ghost use Rattle.tables.specs.Layout.{record_of, opening_of};

@@ -1,4 +1,6 @@
 // Whether the records of lent tables are sound.
+#![tactic(auto)]
+
 ghost use Rattle.std.specs.Prelude.{◌≡◌, length};
 ghost use Rattle.combine.specs.Below.{all_below};
 ghost use Rattle.placing.specs.Sizes.{places, tables_length, record_length};

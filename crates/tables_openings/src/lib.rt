@@ -1,4 +1,6 @@
 // An opening from its cells, and back.
+#![tactic(auto)]
+
 ghost use Rattle.std.specs.Prelude.{◌≡◌, [], ◌∷◌, ◌<◌, length};
 ghost use Rattle.placing.specs.Sizes.{entries, tables_length, opening_length};
 ghost use Rattle.tables.specs.Layout.{opening_of, opening_cells, opening_at, put_opening};

@@ -1,4 +1,6 @@
 // A record from its cells, and back.
+#![tactic(auto)]
+
 ghost use Rattle.std.specs.Prelude.{◌≡◌, [], ◌∷◌, ◌<◌, length};
 ghost use Rattle.placing.specs.Sizes.{places, tables_length, record_length};
 ghost use Rattle.tables.specs.Layout.{record_of, record_cells, record_at, put_record};

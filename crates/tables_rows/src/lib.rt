@@ -1,4 +1,6 @@
 // Arrays from a row of cells of the same length, and back.
+#![tactic(auto)]
+
 ghost use Rattle.std.specs.Prelude.{◌≡◌, map, length};
 ghost use Rattle.placing.specs.Sizes.{most_held, name_symbols, all_pointers};
 ghost use Rattle.placing.specs.Placing.{segment, position};

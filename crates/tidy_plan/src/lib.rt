@@ -1,4 +1,6 @@
 // What a tidying is to move: "Listed segments numbered H or above, in rising order, go to the free ones below H, in rising order".
+#![tactic(auto)]
+
 ghost use Rattle.std.specs.Prelude.{◌≡◌, ℕ, ◌*◌, ◌<◌, ◌≤◌, get_or, length, take};
 ghost use Rattle.combine.specs.Below.{count_below};
 ghost use Rattle.placing.specs.Sizes.{most_segments};

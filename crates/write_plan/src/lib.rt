@@ -1,4 +1,6 @@
 // What a write is to do, decided before anything is changed.
+#![tactic(auto)]
+
 ghost use Rattle.std.specs.Prelude.{◌≡◌, ◌≤◌};
 ghost use Rattle.placing.specs.Sizes.{most_held};
 ghost use Rattle.tables.specs.Fields.{value_of};
@@ -11,7 +13,7 @@ use placing::{LIST_LENGTH, MOST_HELD, Segment};
 use tables::Opening;
 
 // What a write is to do. A place is one of the opening's list.
-#[derive(Drop)]
+#[derive(Clone, Copy)]
 pub enum Plan {
     No(Refusal),
     // the first element is dropped

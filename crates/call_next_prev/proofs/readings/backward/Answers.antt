@@ -1,0 +1,37 @@
+use Rattle.opening_steps.specs.Bounds.{above-begin, to_end}
+use Rattle.call_next_prev.proofs.Chains.{chains, prev-there, some-before, before-low, before-high}
+use Rattle.call_next_prev.proofs.readings.backward.Goals as goal
+
+pub returns-then-foreign : goal.returns-then-foreign
+returns-then-foreign c = search chains
+
+pub returns-then-none : goal.returns-then-none
+returns-then-none c = search chains
+
+pub returns-then-lacks_permit : goal.returns-then-lacks_permit
+returns-then-lacks_permit c = search chains
+
+pub returns-then-is_at_most : goal.returns-then-is_at_most
+returns-then-is_at_most c = search chains
+
+pub returns-then-is_before : goal.returns-then-is_before
+returns-then-is_before c = search chains
+
+pub before-last-requires : goal.before-last-requires
+before-last-requires c =
+    let low = above-begin _ _ _ c.value-begin.ensures _ c.is_at_most.ensures c.if-is_at_most.false in
+    some-before low
+
+pub segment_for-segment-requires : goal.segment_for-segment-requires
+segment_for-segment-requires c =
+    let low = above-begin _ _ _ c.value-begin.ensures _ c.is_at_most.ensures c.if-is_at_most.false in
+    let high = to_end _ _ _ c.value-end.ensures _ c.is_before.ensures c.if-is_before.false in
+    (c.requires, before-low _ _ _ c.before-last.ensures low, before-high _ _ _ c.before-last.ensures low high)
+
+pub returns : goal.returns
+returns c =
+    let over = above-begin _ _ _ c.value-begin.ensures _ c.is_at_most.ensures c.if-is_at_most.false in
+    let low = before-low _ _ _ c.before-last.ensures over in
+    let high = before-high _ _ _ c.before-last.ensures over (to_end _ _ _ c.value-end.ensures _ c.is_before.ensures c.if-is_before.false) in
+    prev-there _ _ _ _ c.is_foreign-foreign.ensures c.if-foreign.false _ c.value-value.ensures _ c.is_none-none.ensures c.if-none.false
+    _ c.lacks_permit.ensures c.if-lacks_permit.false _ c.before-last.ensures low high c.requires _ c.segment_for-segment.ensures

@@ -1,0 +1,7 @@
+-- `call_open::open_work` meets its contract. Assumes nothing.
+use Rattle.call_open.specs.Ways.{way_of}
+use Rattle.call_open.proofs.open_work.Goals as goal
+
+pub returns : goal.returns
+unfolding way_of
+returns c = c.open_old.ensures

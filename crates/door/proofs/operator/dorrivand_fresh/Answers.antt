@@ -1,0 +1,5 @@
+use Rattle.door.specs.Laws.Handed.{hands}
+use Rattle.door.proofs.operator.dorrivand_fresh.Goals as goal
+
+pub returns : goal.returns
+returns c = search hands

@@ -1,0 +1,5 @@
+use Rattle.opening_steps.proofs.Steps.{counts}
+use Rattle.opening_steps.proofs.place_of.Goals as goal
+
+pub returns : goal.returns
+returns c = search counts

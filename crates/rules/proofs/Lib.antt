@@ -1,0 +1,2 @@
+-- Laws of the rules that other crates cite. Assumes nothing.
+pub mod Laws

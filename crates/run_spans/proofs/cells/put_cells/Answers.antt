@@ -1,0 +1,19 @@
+-- `run_spans::cells::put_cells` meets its contract. Assumes nothing.
+use Prim.Native.Nat.{◌+◌, ◌≤◌}
+use native.Mathlib.Omega.{arith}
+use borrow.Author.Rules.{rules}
+use lib.ListN.{length}
+use Rattle.run_spans.proofs.Copied.{cells-within, cells-put}
+use Rattle.run_spans.proofs.cells.put_cells.Goals as goal
+
+pub overflow_add-at : goal.overflow_add-at
+overflow_add-at c = let w : c.index-at.result + c.args.count ≤ length c.args.store.now = search cells-within in omega arith
+
+pub offset_bounds-store-at : goal.offset_bounds-store-at
+offset_bounds-store-at c = let w : c.index-at.result + c.args.count ≤ length c.args.store.now = search cells-within in omega arith
+
+pub slice_bounds-copy_cells-end-2 : goal.slice_bounds-copy_cells-end-2
+slice_bounds-copy_cells-end-2 c = search cells-within
+
+pub returns : goal.returns
+returns c = search (cells-put, rules)
