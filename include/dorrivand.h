@@ -1,7 +1,7 @@
 /*
  * Dorrivand: a file module for eight landlords who keep their lifts' fault records in one block store.
  *
- * The caller keeps the store and the tables, two rows of 32-bit cells, and lends them to each call. `rt staticlib door`
+ * The caller keeps the store and the tables, two rows of 32-bit cells, and lends them to each call. `tools/build door`
  * writes the library, and a program is built by
  *
  *     gcc program.c -Iinclude target/staticlib/libdoor.a

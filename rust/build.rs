@@ -1,4 +1,4 @@
-//! Finds the archive that `rt staticlib door` writes, and has it linked.
+//! Finds the archive that `tools/build door` writes, and has it linked.
 
 use std::env;
 use std::path::{Path, PathBuf};
@@ -21,7 +21,7 @@ fn main() {
     println!("cargo:rerun-if-changed={}", archive.display());
     if !archive.is_file() {
         eprintln!("dorrivand: the library is not there: {}", archive.display());
-        eprintln!("run `rt staticlib door` first, or let {FOLDER} name the folder that has libdoor.a");
+        eprintln!("run `tools/build door` first, or let {FOLDER} name the folder that has libdoor.a");
         process::exit(1);
     }
     println!("cargo:rustc-link-search=native={}", folder.display());

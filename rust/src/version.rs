@@ -25,7 +25,7 @@ fn check(linked: u32) {
     assert!(
         linked == VERSION,
         "the library that is linked is of version {linked}, and this crate is written for version {VERSION}: \
-         take both from one place, and run `rt staticlib door` there"
+         take both from one place, and run `tools/build door` there"
     );
 }
 
