@@ -1,11 +1,7 @@
 -- An answer in document 01's numbers. Assumes nothing.
-use Rattle.std.specs.Prelude.{ℕ, ℤ}
+use Rattle.std.specs.Prelude.{ℕ, ℤ, Result, Ok, Err}
 use Rattle.answers.specs.declared.Refusal.{Refusal}
 use Rattle.answers.specs.declared.Refusal.TheVariants as R
-use Rattle.answers.specs.declared.Answer.{Answer}
-use Rattle.answers.specs.declared.Answer.TheVariants.{Done, Refused}
-use Rattle.answers.specs.declared.SignedAnswer.{SignedAnswer}
-use Rattle.answers.specs.declared.SignedAnswer.TheVariants as S
 use Rattle.combine.specs.Verdict.{Verdict, Said, refused, done}
 
 -- the table of refusals; 12 is a hole in it: "12 is never given again" (document 02, P4)
@@ -57,12 +53,20 @@ refusal_number R.Wide = 23
 -- a begin or an end beyond 16,777,215, the greatest of form 1 (document 02, P7)
 refusal_number R.Far = 24
 
--- what an answer says
-abbrev pub said : Answer → Said
-said (Done n) = done n
-said (Refused r) = refused (refusal_number r)
+-- "An answer is either done, with its number where there is one, or refused, with one of these inside it": done is 0 where there is no number
+abbrev pub Answer : Type 0
+Answer = Result ℕ Refusal
 
 -- of a call that gives a signed number
+abbrev pub SignedAnswer : Type 0
+SignedAnswer = Result ℤ Refusal
+
+-- what an answer says
+abbrev pub said : Answer → Said
+said (Ok n) = done n
+said (Err r) = refused (refusal_number r)
+
+-- what one with a signed number says
 abbrev pub said_signed : SignedAnswer → Verdict ℤ
-said_signed (S.Done z) = done z
-said_signed (S.Refused r) = refused (refusal_number r)
+said_signed (Ok z) = done z
+said_signed (Err r) = refused (refusal_number r)

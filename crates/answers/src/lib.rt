@@ -34,18 +34,10 @@ pub enum Refusal {
 
 // "An answer is either done, with its number where there is one, or refused, with one of these inside it": done is 0 where
 // there is no number.
-#[derive(Clone, Copy)]
-pub enum Answer {
-    Done(u32),
-    Refused(Refusal),
-}
+pub type Answer = Result<u32, Refusal>;
 
 // The same, where the number is signed.
-#[derive(Clone, Copy)]
-pub enum SignedAnswer {
-    Done(i32),
-    Refused(Refusal),
-}
+pub type SignedAnswer = Result<i32, Refusal>;
 
 // The number of the table.
 pub fn number(refusal: Refusal) -> u32

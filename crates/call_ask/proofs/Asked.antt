@@ -1,4 +1,5 @@
 -- Behind the gate: an inquiry whose verdict is a number is answered by that number, and the number is a cell of the opening. Assumes nothing.
+use Rattle.std.specs.Prelude.{Err, Ok}
 use Prim.Native.Nat.{ℕ, zero, suc, ◌+◌, ◌≤◌, ◌<◌}
 use mathlib.Core.Path.{◌≡◌, refl, sym, ap, subst, ◌∙◌}
 use mathlib.Core.Bool.{true, cond}
@@ -11,7 +12,6 @@ use Rattle.combine.specs.Verdict.{Verdict, refused, on_done}
 use Rattle.combine.specs.Laws.Verdict.{refused-here, went_on}
 use Rattle.combine.specs.Outcome.{outcome_of, settle}
 use Rattle.answers.specs.declared.Refusal.{Refusal}
-use Rattle.answers.specs.declared.Answer.TheVariants.{Done, Refused}
 use Rattle.answers.specs.Said.{refusal_number}
 use Rattle.placing.specs.Sizes.{entry_of}
 use Rattle.placing.specs.Placing.{claim_of}
@@ -42,7 +42,7 @@ module _ (s t : List ℕ) (u e i : ℕ) (here : Reached (length s) t u e i) wher
   abbrev pub Asks : Act → ℕ → Type 0
   Asks act n = verdict_on act t (opening_at t i) ≡ asked n (handle_in (opening_at t i))
 
-  pub answered : (act : Act) (n : ℕ) → leaves_content act ≡ true → Asks act n → outcome (Done n) s t ≡ request_out (uses act) s t u e
+  pub answered : (act : Act) (n : ℕ) → leaves_content act ≡ true → Asks act n → outcome (Ok n) s t ≡ request_out (uses act) s t u e
   answered act n q v =
       let p = here.passed in
       sym
@@ -50,7 +50,7 @@ module _ (s t : List ℕ) (u e i : ℕ) (here : Reached (length s) t u e i) wher
       (subst (λ (k : ℕ). verdict_on act t (opening_at t k) ≡ asked n (handle_in (opening_at t k))) p.which v))
 
   pub answered-not : (act : Act) (why : Refusal) → leaves_content act ≡ true → verdict_on act t (opening_at t i) ≡ refused (refusal_number why)
-      → outcome (Refused why) s t ≡ request_out (uses act) s t u e
+      → outcome (Err why) s t ≡ request_out (uses act) s t u e
   unfolding settle
   answered-not act why q v =
       let p = here.passed in

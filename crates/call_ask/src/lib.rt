@@ -1,5 +1,5 @@
 // The inquiries about an open file.
-#![tactic(auto)]
+#![tactic(auto, using(crate::proofs::Laws::inquiring))]
 
 ghost use Rattle.std.specs.Prelude.{◌≡◌, ◌+◌, ◌<◌, length};
 ghost use Rattle.placing.specs.Sizes.{entries, tables_length, opening_length};
@@ -10,12 +10,14 @@ ghost use Rattle.gate.specs.Gates.{reach_of};
 ghost use Rattle.call_ask.specs.Told.{field_at, told};
 
 use answers::{Answer, Refusal};
-use gate::Gate;
 use placing::{GREATEST_POINTER, NAME_SYMBOLS, OPENING_LENGTH, OPENINGS_START, Position};
 use tables::layout;
 
 // The number of a name's last symbol.
 const LAST_SYMBOL: u32 = NAME_SYMBOLS as u32 - 1;
+
+// The symbol of no place of a name: "63 for k of 12 or more".
+const NO_PLACE: u32 = 63;
 
 // A cell of an opening, by its number in the row.
 fn field(tables: &[u32], at: usize, number: usize) -> u32
@@ -25,16 +27,15 @@ fn field(tables: &[u32], at: usize, number: usize) -> u32
     tables[OPENINGS_START + OPENING_LENGTH * at + number]
 }
 
-// An inquiry that one cell of the opening answers.
+// An inquiry that one cell of the opening answers. `claim`, `symbol` and `value` have only the line of the gate in common with
+// it and with each other: a function that passes the gate and takes the rest as a closure is no plainer, for it takes the
+// same arguments, the closure, and a clause on what that asks of an entry behind the gate.
 fn tell(cells: usize, tables: &[u32], user: u32, entry: u32, number: usize) -> Answer
     requires { number < opening_length }
     ensures { result ≡ told tables.now number (reach_of cells tables.now user entry) }
 {
-    let reached = gate::reach(cells, tables, user, entry);
-    match reached {
-        Gate::No(why) => Answer::Refused(why),
-        Gate::At(at) => Answer::Done(field(tables, at, number)),
-    }
+    let at = gate::reach(cells, tables, user, entry)?;
+    Ok(field(tables, at, number))
 }
 
 // The value of a pointer, as its cell has it.
@@ -59,16 +60,11 @@ pub fn species(store: &[u32], tables: &[u32], user: u32, entry: u32) -> Answer
 pub fn claim(store: &[u32], tables: &[u32], user: u32, entry: u32) -> Answer
     ensures { outcome result store.now tables.now ≡ request_out (uses call.ask_claim) store.now tables.now user entry }
 {
-    let reached = gate::reach(store.len(), tables, user, entry);
-    match reached {
-        Gate::No(why) => Answer::Refused(why),
-        Gate::At(at) => {
-            let species = field(tables, at, layout::OPENING_SPECIES);
-            let begin = value_at(tables, at, 0);
-            let end = value_at(tables, at, 1);
-            Answer::Done(placing::claim(species, begin, end))
-        }
-    }
+    let at = gate::reach(store.len(), tables, user, entry)?;
+    let species = field(tables, at, layout::OPENING_SPECIES);
+    let begin = value_at(tables, at, 0);
+    let end = value_at(tables, at, 1);
+    Ok(placing::claim(species, begin, end))
 }
 
 // "work permit (1 or 0)"
@@ -82,17 +78,12 @@ pub fn permit(store: &[u32], tables: &[u32], user: u32, entry: u32) -> Answer
 pub fn symbol(store: &[u32], tables: &[u32], user: u32, entry: u32, k: u32) -> Answer
     ensures { outcome result store.now tables.now ≡ request_out (uses (call.ask_symbol k)) store.now tables.now user entry }
 {
-    let reached = gate::reach(store.len(), tables, user, entry);
-    match reached {
-        Gate::No(why) => Answer::Refused(why),
-        Gate::At(at) => {
-            if LAST_SYMBOL < k {
-                return Answer::Done(63);
-            }
-            let number = layout::OPENING_NAME + k as usize;
-            Answer::Done(field(tables, at, number))
-        }
+    let at = gate::reach(store.len(), tables, user, entry)?;
+    if LAST_SYMBOL < k {
+        return Ok(NO_PLACE);
     }
+    let number = layout::OPENING_NAME + k as usize;
+    Ok(field(tables, at, number))
 }
 
 pub fn begin(store: &[u32], tables: &[u32], user: u32, entry: u32) -> Answer
@@ -111,18 +102,13 @@ pub fn end(store: &[u32], tables: &[u32], user: u32, entry: u32) -> Answer
 pub fn value(store: &[u32], tables: &[u32], user: u32, entry: u32, pointer: u32) -> Answer
     ensures { outcome result store.now tables.now ≡ request_out (uses (call.ask_value pointer)) store.now tables.now user entry }
 {
-    let reached = gate::reach(store.len(), tables, user, entry);
-    match reached {
-        Gate::No(why) => Answer::Refused(why),
-        Gate::At(at) => {
-            if GREATEST_POINTER < pointer {
-                return Answer::Refused(Refusal::Pointer);
-            }
-            let found = value_at(tables, at, pointer);
-            if found.is_none() {
-                return Answer::Refused(Refusal::Pointer);
-            }
-            Answer::Done(found.number())
-        }
+    let at = gate::reach(store.len(), tables, user, entry)?;
+    if GREATEST_POINTER < pointer {
+        return Err(Refusal::Pointer);
     }
+    let found = value_at(tables, at, pointer);
+    if found.is_none() {
+        return Err(Refusal::Pointer);
+    }
+    Ok(found.number())
 }

@@ -1,41 +1,31 @@
 -- Each plan carried out on the tables t, at entry i. Assumes nothing.
+use Rattle.std.specs.Prelude.{Ok}
 use Prim.Native.Nat.{ℕ, ◌<◌}
 use mathlib.Core.Path.{◌≡◌, sym, ap, subst, ◌∙◌}
 use mathlib.Core.Bool.{Bool}
 use mathlib.Core.List.{List}
-use Rattle.combine.specs.Verdict.{refused, done}
+use Rattle.combine.specs.Verdict.{done}
 use Rattle.combine.specs.Outcome.{Outcome, outcome_of}
-use Rattle.answers.specs.declared.Refusal.{Refusal}
-use Rattle.answers.specs.Said.{refusal_number}
 use Rattle.placing.specs.Sizes.{places}
-use Rattle.rules.specs.Rules.{close_rule}
 use Rattle.tables.specs.declared.Record.{Record}
 use Rattle.tables.specs.declared.Opening.{Opening}
 use Rattle.tables.specs.Layout.{put_record, put_opening, unused_record, closed_opening}
-use Rattle.tables.specs.Handles.{handle_in}
 use Rattle.cells.specs.Laws.Catalogue.{filed_record}
-use Rattle.catalogue_laws.specs.Places.{headings}
 use Rattle.close_choice.specs.declared.Plan.{Plan}
-use Rattle.close_choice.specs.declared.Plan.TheVariants.{No, Ends, Unfiles, Files}
-use Rattle.close_choice.specs.Planned.{planned, InRange}
-use Rattle.call_close.specs.declared.Leaving.{Leaving}
-use Rattle.call_close.specs.declared.Leaving.TheVariants.{Closes, Abandons}
-use Rattle.call_close.specs.Leaving.{leaving, carried}
+use Rattle.close_choice.specs.declared.Plan.TheVariants.{Ends, Unfiles, Files}
+use Rattle.close_choice.specs.Planned.{InRange}
+use Rattle.call_close.specs.Carried.{carried}
 
-module _ (plan : Plan) (r : InRange plan) where
+module _ (plan : Plan) (r : InRange (Ok plan)) where
   pub unfiles-inside : (p : ℕ) → plan ≡ Unfiles p → p < places
-  unfiles-inside p e = subst InRange e r
+  unfiles-inside p e = subst (λ (x : Plan). InRange (Ok x)) e r
 
   pub files-inside : (p : ℕ) (public : Bool) → plan ≡ Files p public → p < places
-  files-inside p public e = subst InRange e r
+  files-inside p public e = subst (λ (x : Plan). InRange (Ok x)) e r
 
 module _ (t : List ℕ) (i u : ℕ) (o : Opening) (plan : Plan) where
   by-plan : (x : Plan) → plan ≡ x → carried t i u o x ≡ carried t i u o plan
   by-plan x e = ap (carried t i u o) (sym e)
-
-  pub carried-no : (why : Refusal) → plan ≡ No why → outcome_of (refused (refusal_number why)) t ≡ carried t i u o plan
-  unfolding carried
-  carried-no why e = by-plan (No why) e
 
   -- what is left is that the opening ends: x is the answer with the tables then
   module _ (x : Outcome (List ℕ)) where
@@ -54,14 +44,3 @@ module _ (t : List ℕ) (i u : ℕ) (o : Opening) (plan : Plan) where
       pub carried-files : (public : Bool) → plan ≡ Files p public → f ≡ filed_record public u o → x ≡ carried t i u o plan
       unfolding carried
       carried-files public e ef = written (filed_record public u o) ef ∙ by-plan (Files p public) e
-
--- ---- what is decided
-
-module _ (how : Leaving) (t : List ℕ) (u : ℕ) (o : Opening) where
-  pub close-decided : (public : Bool) (plan : Plan) → how ≡ Closes public → planned u o plan ≡ close_rule public u (headings t) (handle_in o) → planned u o plan ≡ leaving how t u o
-  unfolding leaving
-  close-decided public plan e h = h ∙ ap (λ (x : Leaving). leaving x t u o) (sym e)
-
-  pub abandon-decided : how ≡ Abandons → planned u o Ends ≡ leaving how t u o
-  unfolding planned leaving
-  abandon-decided e = ap (λ (x : Leaving). leaving x t u o) (sym e)

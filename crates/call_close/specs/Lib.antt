@@ -1,2 +1,2 @@
--- The ways to leave an opening, and what is done then. Assumes nothing.
-pub mod Leaving
+-- What is done when a file is closed. Assumes nothing.
+pub mod Carried

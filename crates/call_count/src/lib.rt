@@ -1,5 +1,5 @@
 // The inquiry that names no entry.
-#![tactic(auto)]
+#![tactic(auto, using(crate::proofs::Laws::counts))]
 
 ghost use Rattle.std.specs.Prelude.{◌≡◌};
 ghost use Rattle.cells.specs.Outcomes.{outcome, free_out};
@@ -12,11 +12,11 @@ pub fn free_segments(store: &[u32], tables: &[u32], user: u32) -> Answer
     ensures { outcome result store.now tables.now ≡ free_out store.now tables.now user }
 {
     if !sound::sound(tables, store.len()) {
-        return Answer::Refused(Refusal::Tables);
+        return Err(Refusal::Tables);
     }
     if GREATEST_USER < user {
-        return Answer::Refused(Refusal::User);
+        return Err(Refusal::User);
     }
     let number = free_count::free_count(tables);
-    Answer::Done(number)
+    Ok(number)
 }

@@ -1,5 +1,6 @@
 -- The loop over turns, "what is done and then the rest": at entry i of 32, through pointer p, with the store's cells s, the tables' t and the list l,
 -- of which n places are filled; goal is what the whole comes to. Assumes nothing.
+use Rattle.std.specs.Prelude.{Ok, Err}
 use Prim.Native.Nat.{ℕ, suc, ◌+◌, ◌≤◌, ◌<◌}
 use mathlib.Core.Path.{◌≡◌, sym, ap, ◌∙◌}
 use mathlib.Core.List.{List, [], ◌∷◌, ◌++◌, append_assoc}
@@ -10,12 +11,14 @@ use lib.Seq.{take_all, length-paste, take-paste, drop-paste, drop-cons, drop-dro
 use Rattle.combine.specs.Run.{Ran, ran}
 use Rattle.combine.specs.Laws.Mapped.{map-drop}
 use Rattle.combine.specs.Laws.Run.{behind, run_none, run-stops}
+use Rattle.answers.specs.declared.Refusal.{Refusal}
+use Rattle.answers.specs.Said.{refusal_number}
 use Rattle.rules.specs.Calls.{Act, next}
 use Rattle.cells.specs.Outcomes.{Lent, lent}
 use Rattle.cells.specs.Runs.{Filled, filled, filled_by}
 use Rattle.gate_laws.specs.Standing.{Standing}
 use Rattle.run_laws.specs.Singles.{use_on, uses_on, nexts_of}
-use Rattle.call_fill_run.specs.Turned.{Fills, Stops}
+use Rattle.call_fill_run.specs.Turned.{Fills, Stops, Handed}
 
 -- n places are filled, and the rest comes to r
 pub filled_on : ℕ → List ℕ → Ran Lent → Filled
@@ -38,18 +41,23 @@ unfolding filled_on
 here-ends n number l x = λ q. filled (sym (add-zero n) q) number ((sym (take-append-drop n l) ∙ ap (λ (m : ℕ). take n l ++ drop m l) (sym (add-zero n))) q) x
 
 module _ (i p : ℕ) (goal : Filled) (n : ℕ) (s t l : List ℕ) (w : Filling i p goal n s t l) where
-  pub filling-ends : length l ≤ n → filled n 0 l (lent s t) ≡ goal
-  filling-ends h =
+  pub filling-ends : length l ≤ n → (all : Unit {0}) → Handed l (Ok all) (lent s t) goal
+  filling-ends h all =
+      let many : length l ≡ n = omega (arith, w.few) in
       let none : drop n l ≡ [] = drop_of_length-le l h in
-      here-ends n 0 l (lent s t) ∙ ap (filled_on n l) (sym (ap (λ (y : List ℕ). uses_on i (nexts_of p y) (lent s t)) none ∙ run_none (use_on i) (lent s t))) ∙ w.left
+      record {
+        says = ap (λ (m : ℕ). filled m 0 l (lent s t)) many ∙ here-ends n 0 l (lent s t)
+            ∙ ap (filled_on n l) (sym (ap (λ (y : List ℕ). uses_on i (nexts_of p y) (lent s t)) none ∙ run_none (use_on i) (lent s t))) ∙ w.left;
+      }
 
   module _ (t' l' : List ℕ) where
-    pub filling-stops : n < length l → (number : ℕ) → Stops i p s t l number t' l' → filled n number l' (lent s t') ≡ goal
-    filling-stops h number a =
+    pub filling-stops : n < length l → (why : Refusal) → Stops i p s t l (refusal_number why) t' l' → Handed l' (Err (n, why)) (lent s t') goal
+    filling-stops h why a =
+        let number = refusal_number why in
         let first : nexts_of p (drop n l) ≡ next p ∷ nexts_of p (drop (suc n) l) = ap (nexts_of p) (drop-cons l n 0 h) in
         let stopped : uses_on i (nexts_of p (drop n l)) (lent s t) ≡ ran 0 number [] (lent s t') =
         ap (λ (y : List Act). uses_on i y (lent s t)) first ∙ run-stops (use_on i) (next p) _ number (lent s t) (lent s t') (sym a.call) in
-        ap (λ (y : List ℕ). filled n number y (lent s t')) a.list ∙ here-ends n number l (lent s t') ∙ ap (filled_on n l) (sym stopped) ∙ w.left
+        record { says = ap (λ (y : List ℕ). filled n number y (lent s t')) a.list ∙ here-ends n number l (lent s t') ∙ ap (filled_on n l) (sym stopped) ∙ w.left }
 
     module _ (k : ℕ) (a : Fills i p s t l n k t' l') where
       pub turn-fits : n + k ≤ length l

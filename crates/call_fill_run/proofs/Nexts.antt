@@ -1,4 +1,5 @@
 -- The single next, at each position of a stretch: s is the store's cells, t the tables', i an entry of 32, p a pointer. Assumes nothing.
+use Rattle.std.specs.Prelude.{Ok}
 use Prim.Native.Nat.{ℕ, ◌+◌, ◌-◌, ◌≤◌, ◌<◌}
 use mathlib.Core.Path.{◌≡◌, refl, sym, ap, subst, ◌∙◌}
 use mathlib.Core.Logic.{◌≢◌, ⊎_elim}
@@ -27,7 +28,6 @@ use Rattle.tables.specs.Handles.{handle_in, pointed}
 use Rattle.opening_laws.specs.Deeded.{first_left}
 use Rattle.gate_laws.specs.Standing.{Standing, standing-long}
 use Rattle.gate_laws.specs.Known.{standing-known}
-use Rattle.call_next_prev.specs.declared.Reading.TheVariants.{At}
 use Rattle.call_next_prev.specs.Reads.{segment_for, lacks_permit, next_left, NextPlan, delivered}
 use Rattle.call_next_prev.proofs.Chains.{next-there}
 use Rattle.call_next_prev.proofs.Delivers.{next-told}
@@ -54,8 +54,8 @@ module _ (s t : List ℕ) (i : ℕ) (w : Standing (length s) t i) (p : ℕ) wher
       let known = standing-known s t i w o refl in
       let first = known.file.first in
       let there = ne_eqb (value_of o p) 0 (λ z. let l = m.low in omega arith) in
-      let plan : NextPlan o false p (At (segment_for o (value_of o p)) x) = next-there false o p _ refl m.kind x refl (eqb (value_of o p) 0) refl there _ refl m.allowed m.low m.high known.file _ refl in
-      record { outcome = use-used s t i w (next p) ∙ sym (next-told t o false p _ plan _ x refl known s i (pointed o p (position (value_of o p + 1))) _ (sym m.left) refl) }
+      let plan : NextPlan o false p (Ok (record { segment = segment_for o (value_of o p); position = x })) = next-there false o p _ refl m.kind x refl (eqb (value_of o p) 0) refl there _ refl m.allowed m.low m.high known.file _ refl in
+      record { outcome = use-used s t i w (next p) ∙ sym (next-told t o false p _ plan known s i (pointed o p (position (value_of o p + 1))) _ (sym m.left) refl) }
 
 -- ---- a next that is done was of its file's kind, and allowed
 

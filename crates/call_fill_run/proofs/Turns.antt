@@ -1,5 +1,6 @@
 -- What a turn says, as the code's steps give its premises: at entry i of 32, through pointer p, with the store's cells s, the tables' t and the list l,
 -- of which n places are filled; o is the opening that was loaded. Assumes nothing.
+use Rattle.std.specs.Prelude.{Result, Err, Ok}
 use Prim.Native.Nat.{ℕ, zero, suc, ◌+◌, ◌-◌, ◌*◌, ◌≤◌, ◌<◌}
 use mathlib.Core.Path.{◌≡◌, refl, sym, ap, subst, ◌∙◌}
 use mathlib.Core.Bool.{false}
@@ -11,11 +12,8 @@ use lib.ListN.{length, get_or, take, drop, set, length-map, length-drop}
 use lib.Seq.{paste, drop-cons, set_split, append_snoc}
 use Rattle.combine.specs.Outcome.{Outcome}
 use Rattle.answers.specs.declared.Refusal.{Refusal}
-use Rattle.answers.specs.declared.Answer.{Answer}
-use Rattle.answers.specs.declared.Answer.TheVariants.{Done, Refused}
-use Rattle.answers.specs.Said.{refusal_number}
+use Rattle.answers.specs.Said.{Answer, refusal_number}
 use Rattle.placing.specs.declared.Segment.{Segment}
-use Rattle.placing.specs.declared.Position.{Position}
 use Rattle.placing.specs.Sizes.{segment_cells}
 use Rattle.placing.specs.Placing.{position}
 use Rattle.store.specs.Store.{element_at}
@@ -26,10 +24,10 @@ use Rattle.tables.specs.Layout.{opening_at, put_opening}
 use Rattle.tables.specs.Fields.{value_of}
 use Rattle.tables.specs.Handles.{handle_in, pointed}
 use Rattle.cells.specs.Outcomes.{Lent, lent, outcome}
-use Rattle.cells.specs.Runs.{Filled, filled}
+use Rattle.cells.specs.Runs.{Filled}
 use Rattle.gate_laws.specs.Standing.{Standing, standing-fits}
 use Rattle.gate_laws.specs.Known.{standing, standing-known}
-use Rattle.gate_laws.specs.Used.{used_out}
+use Rattle.gate_laws.specs.Used.{used_out, used-no}
 use Rattle.run_laws.specs.Singles.{use_on, nexts_of, Goes}
 use Rattle.run_laws.specs.Stands.{use-used, one-goes}
 use Rattle.run_laws.specs.Along.{Steps, goes-along}
@@ -37,12 +35,9 @@ use Rattle.run_spans.specs.Ahead.{Follow}
 use Rattle.run_takes.specs.Takes.{taken, Points, Far, Took}
 use Rattle.run_takes.proofs.Laws.{length_taken}
 use Rattle.call_next_prev.specs.declared.Reading.{Reading}
-use Rattle.call_next_prev.specs.declared.Reading.TheVariants.{No, At}
 use Rattle.call_next_prev.specs.Reads.{segment_for, NextSaid, NextPlan}
-use Rattle.call_next_prev.proofs.Delivers.{next-kept, next_fits}
-use Rattle.call_fill_run.specs.declared.Turn.{Turn}
-use Rattle.call_fill_run.specs.declared.Turn.TheVariants.{Stopped, Went}
-use Rattle.call_fill_run.specs.Turned.{TurnSaid, Turned}
+use Rattle.call_next_prev.proofs.Delivers.{next_fits}
+use Rattle.call_fill_run.specs.Turned.{Turn, TurnSaid, Turned, Handed}
 use Rattle.call_fill_run.proofs.Filling.{Filling, filling-starts, filling-ends, filling-stops, turn-fits, filling-on}
 use Rattle.call_fill_run.proofs.Nexts.{next-kind, next-allowed, Within, next-steps}
 
@@ -87,10 +82,11 @@ module _ (i p : ℕ) (s t : List ℕ) (w : Standing (length s) t i) (o : Opening
 
   module _ (l : List ℕ) (n : ℕ) where
     module _ (t' : List ℕ) (a : Answer) (e : outcome a s t' ≡ used_out s t i o (next_rule false p (handle_in o))) where
-      pub single-stops : (why : Refusal) → a ≡ Refused why → Turned i p s t l n (Stopped why) t' l
-      single-stops why ea = record { says = record { list = refl; call = ap (λ (b : Answer). outcome b s t') (sym ea) ∙ single-call _ e } }
+      pub single-stops : (why : Refusal) → a ≡ Err why → (r : Turn) → r ≡ Err why → Turned i p s t l n r t' l
+      single-stops why ea r er =
+          subst (λ (y : Turn). Turned i p s t l n y t' l) (sym er) (record { says = record { list = refl; call = ap (λ (b : Answer). outcome b s t') (sym ea) ∙ single-call _ e } })
 
-      pub single-went : (v : ℕ) → a ≡ Done v → n < length l → Turned i p s t l n (Went 1) t' (set l n v)
+      pub single-went : (v : ℕ) → a ≡ Ok v → n < length l → Turned i p s t l n (Ok 1) t' (set l n v)
       single-went v ea h =
           let one = sym (ap (λ (b : Answer). outcome b s t') (sym ea) ∙ single-call _ e) in
           let acts : next p ∷ nexts_of p (drop (suc n) l) ≡ nexts_of p (drop n l) = sym (ap (nexts_of p) (drop-cons l n 0 h)) in
@@ -105,17 +101,22 @@ module _ (i p : ℕ) (s t : List ℕ) (w : Standing (length s) t i) (o : Opening
 
     -- ---- what a reading says
 
-    module _ (r : Reading) (a : NextPlan o false p r) where
-      pub reading-stops : (why : Refusal) → r ≡ No why → Turned i p s t l n (Stopped why) t l
-      reading-stops why e = record { says = record { list = refl; call = single-call _ (next-kept t o false p r a s i why e) } }
+    module _ (d : Result Reading Refusal) (a : NextPlan o false p d) where
+      plan : (y : Result Reading Refusal) → d ≡ y → NextPlan o false p y
+      plan y e = subst (λ (x : Result Reading Refusal). NextPlan o false p x) e a
 
-      module _ (g : Segment) (x : Position) (e : r ≡ At g x) where
-        said : NextSaid o false p (At g x)
-        said = subst (λ (y : Reading). NextSaid o false p y) e a.plan
+      pub reading-stops : (why : Refusal) → d ≡ Err why → (r : Turn) → r ≡ Err why → Turned i p s t l n r t l
+      reading-stops why e r er =
+          subst (λ (y : Turn). Turned i p s t l n y t l) (sym er)
+          (record { says = record { list = refl; call = single-call _ (used-no s t i o (next_rule false p (handle_in o)) (refusal_number why) (plan (Err why) e).plan) } })
 
-        -- the reading that the arm has
-        pub reading-plan : NextPlan o false p (At g x)
-        reading-plan = record { plan = said }
+      module _ (r : Reading) (e : d ≡ Ok r) where
+        -- the reading that is to be delivered
+        pub reading-plan : NextPlan o false p (Ok r)
+        reading-plan = plan (Ok r) e
+
+        said : NextSaid o false p (Ok r)
+        said = reading-plan.plan
 
         pub reading-points : Points o p
         reading-points =
@@ -124,24 +125,24 @@ module _ (i p : ℕ) (s t : List ℕ) (w : Standing (length s) t i) (o : Opening
             let f = (standing-known s t i w o eo).file in
             record { species = f.species; known = said.1.known; some = omega arith; before = omega arith; last = f.last }
 
-        pub reading-fits : g.0 * segment_cells + segment_cells ≤ length s
-        reading-fits = next_fits t o false p r a g x e (standing-known s t i w o eo) (length s) (standing-fits w)
+        pub reading-fits : r.segment.0 * segment_cells + segment_cells ≤ length s
+        reading-fits = next_fits t o false p r reading-plan (standing-known s t i w o eo) (length s) (standing-fits w)
 
-        pub stretch-went : (k : ℕ) (t' l' : List ℕ) → Far o p (length l - n) k → n < length l → (k ≡ 0 → ⊥) → Took s t i o p g l n k t' l' → Turned i p s t l n (Went k) t' l'
+        pub stretch-went : (k : ℕ) (t' l' : List ℕ) → Far o p (length l - n) k → n < length l → (k ≡ 0 → ⊥) → Took s t i o p r.segment l n k t' l' → Turned i p s t l n (Ok k) t' l'
         stretch-went k t' l' far h some took =
             let v = said.0 in
             let lies = said.1.lies in
-            let which : g ≡ segment_for o (value_of o p) = lies.which ∙ ap (segment_for o) (sym v) in
+            let which : r.segment ≡ segment_for o (value_of o p) = lies.which ∙ ap (segment_for o) (sym v) in
             let within : Within o p (length l - n) k = record { points = reading-points; low = omega arith; kind = next-kind o p _ said.1.told; allowed = next-allowed o p _ said.1.told; far = far } in
             let goes : GoesAt i p s t l n k o (segment_for o (value_of o p)) =
             subst (λ (y : Opening). GoesAt i p s t l n k y (segment_for y (value_of y p))) (sym eo)
             (stretch-goes i p s t l n k w (subst (λ (y : Opening). Within y p (length l - n) k) eo within) h (omega (arith, some))) in
             record {
               says = record {
-                told = taken s o.species g (value_of o p) k;
-                long = length_taken s o.species g (value_of o p) k;
+                told = taken s o.species r.segment (value_of o p) k;
+                long = length_taken s o.species r.segment (value_of o p) k;
                 list = took.list;
-                goes = subst (λ (y : List ℕ). Goes i (nexts_of p (drop n l)) s t (taken s o.species g (value_of o p) k) s y) (sym took.tables) (subst (GoesAt i p s t l n k o) (sym which) goes);
+                goes = subst (λ (y : List ℕ). Goes i (nexts_of p (drop n l)) s t (taken s o.species r.segment (value_of o p) k) s y) (sym took.tables) (subst (GoesAt i p s t l n k o) (sym which) goes);
               };
             }
 
@@ -150,24 +151,14 @@ pub ruleset turns = (standing, single-stops, single-went, reading-stops, reading
 -- ---- the loop
 
 module _ (i p : ℕ) (goal : Filled) (n : ℕ) (s t l : List ℕ) (w : Filling i p goal n s t l) where
-  pub loop-standing : Standing (length s) t i
-  loop-standing = w.standing
-
   module _ (t' l' : List ℕ) (r : Turn) (a : Turned i p s t l n r t' l') where
     turned : (q : Turn) → r ≡ q → TurnSaid i p s t l n q t' l'
     turned q e = (subst (λ (y : Turn). Turned i p s t l n y t' l') e a).says
 
-    pub loop-goes : (m : ℕ) → r ≡ Went m → Filling i p goal (n + m) s t' l'
-    loop-goes m e = filling-on i p goal n s t l w t' l' m (turned (Went m) e)
+    pub loop-goes : (m : ℕ) → r ≡ Ok m → Filling i p goal (n + m) s t' l'
+    loop-goes m e = filling-on i p goal n s t l w t' l' m (turned (Ok m) e)
 
-    pub loop-fits : (m : ℕ) → r ≡ Went m → n + m ≤ length l
-    loop-fits m e = turn-fits i p goal n s t l w t' l' m (turned (Went m) e)
+    pub loop-stops : (why : Refusal) → r ≡ Err why → n < length l → Handed l' (Err (n, why)) (lent s t') goal
+    loop-stops why e h = filling-stops i p goal n s t l w t' l' h why (turned (Err why) e)
 
-    pub loop-some : (m : ℕ) → r ≡ Went m → 1 ≤ m
-    loop-some m e = let f = turned (Went m) e in omega (arith, f.long, f.goes.some)
-
-    pub loop-stops : (why : Refusal) (number : ℕ) → r ≡ Stopped why → number ≡ refusal_number why → n < length l → filled n number l' (lent s t') ≡ goal
-    loop-stops why number e en h =
-        ap (λ (m : ℕ). filled n m l' (lent s t')) en ∙ filling-stops i p goal n s t l w t' l' h (refusal_number why) (turned (Stopped why) e)
-
-pub ruleset loops = (filling-starts, filling-ends, loop-standing, loop-goes, loop-fits, loop-some, loop-stops)
+pub ruleset loops = (filling-starts, filling-ends, loop-goes, loop-stops)

@@ -26,3 +26,5 @@ module _ (s t : List ℕ) where
     started h zeros n ez en =
         ap (λ (x : List ℕ). outcome_of (done 0) (lent s (set x 0 n))) (ez ∙ ap (λ (k : ℕ). replicate k 0) long)
         ∙ rw (eq-eqb (length t) tables_length long, le-leb 64 (length s) h) (ap (λ (k : ℕ). outcome_of (done 0) (lent s (set (replicate tables_length 0) 0 k))) en)
+
+pub ruleset starts = (wrong-length, small-store)

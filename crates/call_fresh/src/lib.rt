@@ -1,5 +1,5 @@
 // The operator's fresh start.
-#![tactic(auto)]
+#![tactic(auto, using(crate::proofs::Laws::starts))]
 
 ghost use Rattle.std.specs.Prelude.{◌≡◌};
 ghost use Rattle.placing.specs.Sizes.{fresh_segments};
@@ -15,11 +15,7 @@ const MOST_WHOLE: usize = MOST_SEGMENTS as usize;
 fn segments_in(cells: usize) -> u32
     ensures { result ≡ fresh_segments cells }
 {
-    let whole = cells / SEGMENT_CELLS;
-    if MOST_WHOLE <= whole {
-        return MOST_SEGMENTS;
-    }
-    whole as u32
+    (cells / SEGMENT_CELLS).min(MOST_WHOLE) as u32
 }
 
 // "A fresh start and a load don't look at what the tables held, only at their length and the store's."
@@ -27,12 +23,12 @@ pub fn fresh(store: &[u32], tables: &mut [u32]) -> Answer
     ensures { outcome result store.now tables.new ≡ fresh_out store.now tables.old }
 {
     if tables.len() != TABLES_LENGTH {
-        return Answer::Refused(Refusal::Tables);
+        return Err(Refusal::Tables);
     }
     if store.len() < LEAST_STORE {
-        return Answer::Refused(Refusal::Tables);
+        return Err(Refusal::Tables);
     }
-    combine::fill_cells(tables, 0);
+    tables.fill(0);
     tables[0] = segments_in(store.len());
-    Answer::Done(0)
+    Ok(0)
 }

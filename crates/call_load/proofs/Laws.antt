@@ -5,6 +5,7 @@ use mathlib.Core.Bool.{true, false}
 use mathlib.Core.List.{List}
 use lib.ListN.{length}
 use borrow.Author.Tests.{eq-eqb, ne_eqb, le-leb, lt-leb}
+use Rattle.combine.specs.Laws.Below.{was-true, was-false}
 use Rattle.combine.specs.Verdict.{done, refused, refuse◌when◌else◌}
 use Rattle.combine.specs.Outcome.{outcome_of, settle}
 use Rattle.placing.specs.Sizes.{segment_cells, tables_length}
@@ -30,3 +31,5 @@ module _ (s t img : List ℕ) where
       pub loaded : imageb served (length s) img ≡ true → (x : List ℕ) → x ≡ tables_from served img → outcome_of (done 0) (lent s x) ≡ load_out s t img
       unfolding load_out image_gate start_gate refuse◌when◌else◌ settle
       loaded h x e = rw (eq-eqb (length t) tables_length long, le-leb 64 (length s) room, h) (ap (λ (y : List ℕ). outcome_of (done 0) (lent s y)) e)
+
+pub ruleset loads = (wrong-length, small-store, unsound, was-true, was-false)

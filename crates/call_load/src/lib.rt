@@ -1,5 +1,5 @@
 // The operator's load.
-#![tactic(auto)]
+#![tactic(auto, using(crate::proofs::Laws::loads))]
 
 ghost use Rattle.std.specs.Prelude.{◌≡◌, ◌≤◌, length, replicate};
 ghost use Rattle.placing.specs.Sizes.{least_store, tables_length};
@@ -15,10 +15,10 @@ fn judged(store: &[u32], tables: &mut [u32], image: &[u32], beside: &mut [u32]) 
     ensures { outcome result store.now tables.new ≡ load_out store.now tables.old image.now }
 {
     if !image_sound::is_sound(Form::Two, image, store.len(), beside) {
-        return Answer::Refused(Refusal::Image);
+        return Err(Refusal::Image);
     }
-    combine::copy_cells(beside, tables);
-    Answer::Done(0)
+    tables.copy_from_slice(beside);
+    Ok(0)
 }
 
 // "Save and load: 20, then 22." "A fresh start and a load don't look at what the tables held, only at their length and the store's."
@@ -26,10 +26,10 @@ pub fn load(store: &[u32], tables: &mut [u32], image: &[u32]) -> Answer
     ensures { outcome result store.now tables.new ≡ load_out store.now tables.old image.now }
 {
     if tables.len() != TABLES_LENGTH {
-        return Answer::Refused(Refusal::Tables);
+        return Err(Refusal::Tables);
     }
     if store.len() < LEAST_STORE {
-        return Answer::Refused(Refusal::Tables);
+        return Err(Refusal::Tables);
     }
     let mut beside = [0u32; TABLES_LENGTH];
     judged(store, tables, image, &mut beside)

@@ -1,6 +1,6 @@
 -- The permit, the segment of a position and the opening after a call, as the code's steps give their premises. Assumes nothing.
 use Prim.Native.Nat.{ℕ, ◌+◌, ◌-◌, ◌≤◌, ◌<◌}
-use mathlib.Core.Path.{◌≡◌, sym, ap, subst, ◌∙◌}
+use mathlib.Core.Path.{◌≡◌, sym, ap, ◌∙◌}
 use mathlib.Core.Bool.{Bool, false, not, ◌&&◌}
 use native.Mathlib.Omega.{arith}
 use lib.Dec.{eqb}
@@ -11,10 +11,11 @@ use Rattle.placing.specs.Placing.{segment, position, slot_of}
 use Rattle.tables.specs.declared.Opening.{Opening}
 use Rattle.tables.specs.Fields.{value_of}
 use Rattle.tables.specs.Handles.{pointed}
-use Rattle.opening_laws.specs.Deeded.{first_left, last_left}
 use Rattle.placing.specs.Laws.Held.{slot-within}
 use Rattle.opening_laws.specs.Back.{OpenFile}
-use Rattle.call_next_prev.specs.Reads.{segment_for, lacks_permit, next_left, prev_left}
+use Rattle.call_next_prev.specs.declared.Direction.{Direction}
+use Rattle.call_next_prev.specs.declared.Direction.TheVariants.{Forward, Backward}
+use Rattle.call_next_prev.specs.Reads.{segment_for, lacks_permit, next_left, prev_left, edge_of, edge_left, left_by, from_of, to_of}
 
 -- ---- "next through 0 and prev through 1 need the work permit"
 
@@ -38,30 +39,17 @@ module _ (o : Opening) (x k : ℕ) (ek : k ≡ slot_of o.species (value_of o 0) 
 
 pub ruleset places = (place-small, segment-is)
 
--- ---- the opening after a call
+-- ---- the opening after a call that delivered the element at x
 
-module _ (o : Opening) (p : ℕ) (r : Opening) where
-  pub next-first : p ≡ 0 → r ≡ first_left o → r ≡ next_left o p
-  unfolding next_left
-  next-first z e = simp (eq-eqb p 0 z) e
+module _ (o : Opening) (p : ℕ) (r : Opening) (q : ℕ) where
+  pub left-edge : (d : Direction) → q ≡ edge_of d → p ≡ q → r ≡ edge_left d o → r ≡ left_by d o p
+  unfolding next_left prev_left
+  left-edge Forward eq z e = simp (eq-eqb p 0 (z ∙ eq)) e
+  left-edge Backward eq z e = simp (eq-eqb p 1 (z ∙ eq)) e
 
-  pub next-other : (p ≡ 0 → ⊥) → (v x : Position) → v.0 ≡ value_of o p → x.0 ≡ v.0 + 1 → r ≡ pointed o p x → r ≡ next_left o p
-  unfolding next_left
-  next-other d v x ev ex e = simp (ne_eqb p 0 d) (e ∙ ap (λ (n : ℕ). pointed o p (position n)) (ex ∙ ap (λ (n : ℕ). n + 1) ev))
+  pub left-other : (d : Direction) → q ≡ edge_of d → (p ≡ q → ⊥) → (x y : Position) → value_of o p ≡ from_of d x.0 → y.0 ≡ to_of d x.0 → r ≡ pointed o p y → r ≡ left_by d o p
+  unfolding next_left prev_left
+  left-other Forward eq n x y ev ey e = simp (ne_eqb p 0 (λ z. n (z ∙ sym eq))) (e ∙ ap (λ (m : ℕ). pointed o p (position m)) (let z : y.0 ≡ value_of o p + 1 = omega arith in z))
+  left-other Backward eq n x y ev ey e = simp (ne_eqb p 1 (λ z. n (z ∙ sym eq))) (e ∙ ap (λ (m : ℕ). pointed o p (position m)) (let z : y.0 ≡ value_of o p - 1 = omega arith in z))
 
-  pub prev-last : p ≡ 1 → r ≡ last_left o → r ≡ prev_left o p
-  unfolding prev_left
-  prev-last z e = simp (eq-eqb p 1 z) e
-
-  pub prev-other : (p ≡ 1 → ⊥) → (v x : Position) → v.0 ≡ value_of o p → x.0 ≡ v.0 - 1 → r ≡ pointed o p x → r ≡ prev_left o p
-  unfolding prev_left
-  prev-other d v x ev ex e = simp (ne_eqb p 1 d) (e ∙ ap (λ (n : ℕ). pointed o p (position n)) (ex ∙ ap (λ (n : ℕ). n - 1) ev))
-
--- pointers 0 and 1 between begin and end: there is an element
-pub some_first : (o : Opening) (p : ℕ) → p ≡ 0 → value_of o p < value_of o 1 → value_of o 0 < value_of o 1
-some_first o p z l = subst (λ (q : ℕ). value_of o q < value_of o 1) z l
-
-pub some-last : (o : Opening) (p : ℕ) → p ≡ 1 → value_of o 0 < value_of o p → value_of o 0 < value_of o 1
-some-last o p z l = subst (λ (q : ℕ). value_of o 0 < value_of o q) z l
-
-pub ruleset steps = (next-first, next-other, prev-last, prev-other, some_first, some-last)
+pub ruleset steps = (left-edge, left-other)

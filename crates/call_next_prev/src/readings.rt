@@ -2,9 +2,9 @@
 ghost use Rattle.std.specs.Prelude.{◌≡◌, ◌≤◌, ◌<◌};
 ghost use Rattle.tables.specs.Fields.{value_of};
 ghost use Rattle.opening_laws.specs.Back.{OpenFile};
-ghost use Rattle.call_next_prev.specs.Reads.{segment_for, lacks_permit, NextPlan, PrevPlan};
+ghost use Rattle.call_next_prev.specs.Reads.{segment_for, lacks_permit, ReadPlan, NextPlan};
 
-use crate::Reading;
+use crate::{Direction, Reading};
 use answers::Refusal;
 use placing::{Position, Segment};
 use tables::Opening;
@@ -28,62 +28,44 @@ fn segment_for(opening: Opening, position: Position) -> Segment
     opening.segments[place]
 }
 
-// "Next: v < b is 6, v >= e is 7. Delivers position v"; a species that is not of the call's kind is 19, "after 2 and before 4"
-// (document 02, P5).
-pub fn forward(opening: Opening, pointer: u32, signed: bool) -> Reading
+impl Direction {
+    // "Next: v < b is 6, v >= e is 7. Delivers position v"; "Prev: v <= b is 6, v > e is 7. v falls by 1, delivers that
+    // position.": for both, 6 is a delivered position before the begin, 7 one that is not before the end. A species
+    // that is not of the call's kind is 19, "after 2 and before 4" (document 02, P5).
+    pub fn read(self, opening: Opening, pointer: u32, signed: bool) -> Result<Reading, Refusal>
+        requires { OpenFile opening }
+        ensures { ReadPlan self opening signed pointer result }
+    {
+        let foreign = numbers::is_foreign(signed, opening.species);
+        let value = opening.value(pointer);
+        let none = value.is_none();
+        if foreign {
+            return Err(Refusal::Species);
+        }
+        if none {
+            return Err(Refusal::Pointer);
+        }
+        if lacks_permit(pointer, self.edge(), opening.permit) {
+            return Err(Refusal::Permit);
+        }
+        let position = self.element(value);
+        let begin = opening.value(0);
+        if position.is_before(begin) {
+            return Err(Refusal::Below);
+        }
+        let end = opening.value(1);
+        if end.is_at_most(position) {
+            return Err(Refusal::Beyond);
+        }
+        let segment = segment_for(opening, position);
+        Ok(Reading { segment, position })
+    }
+}
+
+// What a next is to deliver.
+pub fn forward(opening: Opening, pointer: u32, signed: bool) -> Result<Reading, Refusal>
     requires { OpenFile opening }
     ensures { NextPlan opening signed pointer result }
 {
-    let foreign = numbers::is_foreign(signed, opening.species);
-    let value = opening.value(pointer);
-    let none = value.is_none();
-    if foreign {
-        return Reading::No(Refusal::Species);
-    }
-    if none {
-        return Reading::No(Refusal::Pointer);
-    }
-    if lacks_permit(pointer, 0, opening.permit) {
-        return Reading::No(Refusal::Permit);
-    }
-    let begin = opening.value(0);
-    if value.is_before(begin) {
-        return Reading::No(Refusal::Below);
-    }
-    let end = opening.value(1);
-    if end.is_at_most(value) {
-        return Reading::No(Refusal::Beyond);
-    }
-    let segment = segment_for(opening, value);
-    Reading::At(segment, value)
-}
-
-// "Prev: v <= b is 6, v > e is 7. v falls by 1, delivers that position."; 19 as before.
-pub fn backward(opening: Opening, pointer: u32, signed: bool) -> Reading
-    requires { OpenFile opening }
-    ensures { PrevPlan opening signed pointer result }
-{
-    let foreign = numbers::is_foreign(signed, opening.species);
-    let value = opening.value(pointer);
-    let none = value.is_none();
-    if foreign {
-        return Reading::No(Refusal::Species);
-    }
-    if none {
-        return Reading::No(Refusal::Pointer);
-    }
-    if lacks_permit(pointer, 1, opening.permit) {
-        return Reading::No(Refusal::Permit);
-    }
-    let begin = opening.value(0);
-    if value.is_at_most(begin) {
-        return Reading::No(Refusal::Below);
-    }
-    let end = opening.value(1);
-    if end.is_before(value) {
-        return Reading::No(Refusal::Beyond);
-    }
-    let last = value.before();
-    let segment = segment_for(opening, last);
-    Reading::At(segment, last)
+    Direction::Forward.read(opening, pointer, signed)
 }

@@ -7,16 +7,15 @@ ghost use Rattle.rules.specs.Calls.{uses, next_signed, prev_signed};
 ghost use Rattle.cells.specs.Outcomes.{request_out};
 ghost use Rattle.cells.specs.Signed.{signed_outcome, read_signed};
 
+use crate::Direction;
 use answers::{Answer, SignedAnswer};
 
 // The answer of a reading call, its bits read as a signed number.
 fn read(answer: Answer) -> SignedAnswer
     ensures { said_signed result ≡ on_done signed_of (said answer) }
 {
-    match answer {
-        Answer::Refused(why) => SignedAnswer::Refused(why),
-        Answer::Done(bits) => SignedAnswer::Done(numbers::value(bits)),
-    }
+    let bits = answer?;
+    Ok(numbers::value(bits))
 }
 
 // Delivers the signed number at a pointer of an entry of a user; the pointer grows.
@@ -29,7 +28,7 @@ pub fn next_signed(
 ) -> SignedAnswer
     ensures { signed_outcome result store.now tables.new ≡ read_signed (request_out (uses (next_signed pointer)) store.now tables.old user entry) }
 {
-    let answer = crate::next_of(store, tables, user, entry, pointer, true);
+    let answer = Direction::Forward.call(store, tables, user, entry, pointer, true);
     read(answer)
 }
 
@@ -43,6 +42,6 @@ pub fn prev_signed(
 ) -> SignedAnswer
     ensures { signed_outcome result store.now tables.new ≡ read_signed (request_out (uses (prev_signed pointer)) store.now tables.old user entry) }
 {
-    let answer = crate::prev_of(store, tables, user, entry, pointer, true);
+    let answer = Direction::Backward.call(store, tables, user, entry, pointer, true);
     read(answer)
 }

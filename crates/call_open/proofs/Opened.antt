@@ -1,4 +1,5 @@
 -- Each outcome of an opening at a vacant entry. Assumes nothing.
+use Rattle.std.specs.Prelude.{Err, Ok}
 use Prim.Native.Nat.{ℕ, ◌≤◌, ◌<◌}
 use mathlib.Core.Path.{◌≡◌, refl, sym, ap, subst, ◌∙◌}
 use mathlib.Core.Bool.{Bool, true, false}
@@ -11,7 +12,7 @@ use Rattle.combine.specs.Laws.Verdict.{refused-here, went_on}
 use Rattle.combine.specs.Outcome.{Outcome, outcome_of, settle}
 use Rattle.answers.specs.declared.Refusal.{Refusal}
 use Rattle.answers.specs.declared.Refusal.TheVariants.{Species}
-use Rattle.answers.specs.declared.Answer.TheVariants.{Done, Refused}
+use Rattle.answers.specs.Said.{Answer}
 use Rattle.placing.specs.Sizes.{greatest_species, entry_of}
 use Rattle.names.specs.Names.{name_of}
 use Rattle.rules.specs.Calls.{Way, new, opens}
@@ -28,9 +29,7 @@ use Rattle.cells.specs.Laws.Catalogue.{new_opening, old_opening, new-performed, 
 use Rattle.catalogue_laws.specs.Places.{headings}
 use Rattle.catalogue_laws.specs.Entries.{others_in}
 use Rattle.catalogue_laws.specs.Determined.{record-determined}
-use Rattle.open_choice.specs.declared.Choice.{Choice}
-use Rattle.open_choice.specs.declared.Choice.TheVariants.{No, At}
-use Rattle.open_choice.specs.Chosen.{chosen, There}
+use Rattle.open_choice.specs.Chosen.{Choice, chosen, There}
 use Rattle.call_open.specs.Ways.{way_of}
 use Rattle.call_open.specs.Vacant.{Vacant}
 
@@ -49,11 +48,11 @@ module _ (s t : List ℕ) (u e i : ℕ) (v : Vacant s t u e i) where
 
   -- ---- "19 (new)"
 
-  pub new-refused : (n : ℕ) → greatest_species < n → outcome (Refused Species) s t ≡ request_out (opens (new n)) s t u e
+  pub new-refused : (n : ℕ) → greatest_species < n → outcome (Err Species) s t ≡ request_out (opens (new n)) s t u e
   unfolding open_new settle after
   new-refused n l = sym (asked (new n) ∙ ap after (refused-here 19 _ _ (lt-ltb greatest_species n l)))
 
-  pub new-done : (n : ℕ) → n ≤ greatest_species → (o : Opening) (t' : List ℕ) → o ≡ new_opening n → t' ≡ put_opening t i o → outcome (Done 0) s t' ≡ request_out (opens (new n)) s t u e
+  pub new-done : (n : ℕ) → n ≤ greatest_species → (o : Opening) (t' : List ℕ) → o ≡ new_opening n → t' ≡ put_opening t i o → outcome (Ok 0) s t' ≡ request_out (opens (new n)) s t u e
   unfolding open_new settle after
   new-done n l o t' eo et =
       ap (λ (x : List ℕ). outcome_of (done 0) (lent s x)) (et ∙ ap (put_opening t i) eo)
@@ -73,14 +72,14 @@ module _ (s t : List ℕ) (u e i : ℕ) (v : Vacant s t u e i) where
         by_way true = refl
         by_way false = refl
 
-    pub old-refused : (why : Refusal) → g ≡ No why → outcome (Refused why) s t ≡ request_out (opens (way_of w bytes)) s t u e
+    pub old-refused : (why : Refusal) → g ≡ Err why → (z : Answer) → z ≡ Err why → outcome z s t ≡ request_out (opens (way_of w bytes)) s t u e
     unfolding settle after chosen
-    old-refused why at = sym (asked-old ∙ ap (λ (x : Choice). after (chosen w t x)) at)
+    old-refused why at z ez = ap (λ (x : Answer). outcome x s t) ez ∙ sym (asked-old ∙ ap (λ (x : Choice). after (chosen w t x)) at)
 
-    pub old-done : (p : ℕ) → g ≡ At p → There t g → (t' : List ℕ) → t' ≡ put_opening t i (old_opening w p (record_at t p)) → outcome (Done 0) s t' ≡ request_out (opens (way_of w bytes)) s t u e
+    pub old-done : (p : ℕ) → g ≡ Ok p → There t g → (t' : List ℕ) → t' ≡ put_opening t i (old_opening w p (record_at t p)) → outcome (Ok 0) s t' ≡ request_out (opens (way_of w bytes)) s t u e
     unfolding settle after chosen
     old-done p at can t' et =
-        let here : There t (At p) = subst (There t) at can in
+        let here : There t (Ok p) = subst (There t) at can in
         ap (λ (x : List ℕ). outcome_of (done 0) (lent s x)) et
         ∙ sym
         (asked-old

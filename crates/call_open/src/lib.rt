@@ -12,42 +12,30 @@ ghost use Rattle.call_open.specs.Vacant.{AtVacant};
 ghost use Rattle.call_open.specs.Ways.{way_of};
 
 use answers::{Answer, Refusal};
-use gate::Gate;
-use open_choice::Choice;
 use placing::{GREATEST_SPECIES, OPENING_LENGTH, OPENINGS_START};
 
 // The entry that is to be opened: "Order: 20, 1, 2, then for an opening 3".
-fn vacant(store: &[u32], tables: &[u32], user: u32, entry: u32) -> Gate
+fn vacant(store: &[u32], tables: &[u32], user: u32, entry: u32) -> Result<usize, Refusal>
     ensures { AtVacant store.now tables.now user entry result }
 {
-    let passed = gate::pass(store.len(), tables, user, entry);
-    match passed {
-        Gate::No(why) => Gate::No(why),
-        Gate::At(at) => {
-            let opened = OPENINGS_START + OPENING_LENGTH * at;
-            if tables[opened] == 1 {
-                return Gate::No(Refusal::Open);
-            }
-            Gate::At(at)
-        }
+    let at = gate::pass(store.len(), tables, user, entry)?;
+    let opened = OPENINGS_START + OPENING_LENGTH * at;
+    if tables[opened] == 1 {
+        return Err(Refusal::Open);
     }
+    Ok(at)
 }
 
 pub fn open_new(store: &[u32], tables: &mut [u32], user: u32, entry: u32, species: u32) -> Answer
     ensures { outcome result store.now tables.new ≡ request_out (opens (way.new species)) store.now tables.old user entry }
 {
-    let gate = vacant(store, tables, user, entry);
-    match gate {
-        Gate::No(why) => Answer::Refused(why),
-        Gate::At(at) => {
-            if GREATEST_SPECIES < species {
-                return Answer::Refused(Refusal::Species);
-            }
-            let opening = opening_values::new_opening(species);
-            tables_openings::put_opening(tables, at, opening);
-            Answer::Done(0)
-        }
+    let at = vacant(store, tables, user, entry)?;
+    if GREATEST_SPECIES < species {
+        return Err(Refusal::Species);
     }
+    let opening = opening_values::new_opening(species);
+    tables_openings::put_opening(tables, at, opening);
+    Ok(0)
 }
 
 // The record at a place is opened at an entry.
@@ -71,21 +59,11 @@ fn open_old(
 ) -> Answer
     ensures { outcome result store.now tables.new ≡ request_out (opens (way_of work name.now)) store.now tables.old user entry }
 {
-    let gate = vacant(store, tables, user, entry);
-    match gate {
-        Gate::No(why) => Answer::Refused(why),
-        Gate::At(at) => {
-            let symbols = names::name_of(name);
-            let choice = open_choice::choose(tables, user, symbols, work);
-            match choice {
-                Choice::No(why) => Answer::Refused(why),
-                Choice::At(place) => {
-                    open_record(tables, at, place, work);
-                    Answer::Done(0)
-                }
-            }
-        }
-    }
+    let at = vacant(store, tables, user, entry)?;
+    let symbols = names::name_of(name);
+    let place = open_choice::choose(tables, user, symbols, work)?;
+    open_record(tables, at, place, work);
+    Ok(0)
 }
 
 pub fn open_work(store: &[u32], tables: &mut [u32], user: u32, entry: u32, name: &[u8]) -> Answer

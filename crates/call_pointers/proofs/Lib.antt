@@ -1,2 +1,2 @@
--- What the code of `new_pointer_rule` does. Assumes nothing.
+-- What the calls on the pointers of an open file come to. Assumes nothing.
 pub mod Laws

@@ -5,6 +5,7 @@ use mathlib.Core.Bool.{true, false}
 use mathlib.Core.List.{List}
 use lib.ListN.{length}
 use borrow.Author.Tests.{eq-eqb, ne_eqb}
+use Rattle.combine.specs.Laws.Below.{was-true, was-false}
 use Rattle.combine.specs.Verdict.{done, refused, refuse◌when◌else◌}
 use Rattle.combine.specs.Outcome.{outcome_of, settle}
 use Rattle.rules.specs.Gates.{start_gate, image_gate}
@@ -25,3 +26,5 @@ module _ (s t img : List ℕ) where
     pub written : length img ≡ image_length served → (x : List ℕ) → x ≡ image_of served t → outcome_of (done 0) (saved s t x) ≡ save_out s t img
     unfolding save_out image_gate start_gate refuse◌when◌else◌ settle
     written h x e = rw (ok, eq-eqb (length img) (image_length served) h) (ap (λ (y : List ℕ). outcome_of (done 0) (saved s t y)) e)
+
+pub ruleset saves = (unsound, wrong-length, written, was-true, was-false)

@@ -1,7 +1,6 @@
 -- What a contract says of the code's answer, and of the cells of store, tables and image. Assumes nothing.
 use Rattle.std.specs.Prelude.{ℕ, List}
-use Rattle.answers.specs.declared.Answer.{Answer}
-use Rattle.answers.specs.Said.{said}
+use Rattle.answers.specs.Said.{Answer, said}
 use Rattle.combine.specs.Outcome.{Outcome, outcome_of}
 use Rattle.cells.specs.Outcomes.{Saved, saved}
 

@@ -1,5 +1,5 @@
 // The operator's save.
-#![tactic(auto)]
+#![tactic(auto, using(crate::proofs::Laws::saves))]
 
 ghost use Rattle.std.specs.Prelude.{◌≡◌};
 ghost use Rattle.cells.specs.Outcomes.{save_out};
@@ -13,11 +13,11 @@ pub fn save(store: &[u32], tables: &[u32], image: &mut [u32]) -> Answer
     ensures { saved_outcome result store.now tables.now image.new ≡ save_out store.now tables.now image.old }
 {
     if !sound::sound(tables, store.len()) {
-        return Answer::Refused(Refusal::Tables);
+        return Err(Refusal::Tables);
     }
     if image.len() != IMAGE_LENGTH {
-        return Answer::Refused(Refusal::Image);
+        return Err(Refusal::Image);
     }
     image_code::put_image(Form::Two, tables, image);
-    Answer::Done(0)
+    Ok(0)
 }

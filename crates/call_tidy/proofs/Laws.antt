@@ -29,7 +29,7 @@ use Rattle.cells.specs.Outcomes.{lent, sound_lent, tidy_out}
 use Rattle.proof_cells_agree.specs.There.{opening-at}
 use Rattle.proof_cells_agree.specs.Canonical.{sound-canonical}
 use Rattle.proof_moves.specs.Tidying.{tidy-inside}
-use Rattle.proof_moves.specs.Outcome.{tidy-done}
+use Rattle.proof_moves.specs.Outcome.{tidy-unsound, tidy-busy, tidy-done}
 use Rattle.call_tidy.proofs.Unmoved.{unmoved}
 
 -- ---- whether something is open
@@ -46,9 +46,13 @@ openings-many : (t : List ℕ) → length (house_of t).openings ≡ entries
 unfolding house_of
 openings-many t = length-tab entries (λ i. decoded_opening (opening_at t i))
 
-pub still-tables : (t : List ℕ) → all_below entries (λ i. not (is_open (opening_at t i))) ≡ not (has_open (house_of t))
+-- of the tables t, whether entry i is not open
+abbrev pub closed : List ℕ → ℕ → Bool
+closed t i = not (is_open (opening_at t i))
+
+pub still-tables : (t : List ℕ) → all_below entries (closed t) ≡ not (has_open (house_of t))
 still-tables t =
-    all-cong (λ i. not (is_open (opening_at t i))) (λ i. not (is_some (get_or (house_of t).openings i none))) entries
+    all-cong (closed t) (λ i. not (is_some (get_or (house_of t).openings i none))) entries
     (λ i l. ap not (sym (ap is_some (opening-at t i l) ∙ some-open (opening_at t i))))
     ∙ ap (λ (n : ℕ). all_below n (λ i. not (is_some (get_or (house_of t).openings i none)))) (sym (openings-many t))
     ∙ sym (none_below is_some (house_of t).openings none)
@@ -64,7 +68,7 @@ busy-so t n e = not-false (has_open (house_of t)) (was-false n e)
 pub still-so : {r : Bool} (t : List ℕ) → not r ≡ false → r ≡ not (has_open (house_of t)) → has_open (house_of t) ≡ false
 still-so t n e = not-true (has_open (house_of t)) (was-true n e)
 
-pub ruleset tests = (was-true, was-false, busy-so, still-so)
+pub ruleset tests = (was-true, was-false, busy-so, still-so, tidy-unsound, tidy-busy)
 
 pub lent-moves : (t room : List ℕ) (r : ℕ) → take (2 * r) room ≡ tidy_moves (house_of t) → take (2 * r - 0) room ≡ tidy_moves (house_of t)
 lent-moves t room r e = ap (λ (k : ℕ). take k room) {x = 2 * r - 0} {y = 2 * r} (omega arith) ∙ e

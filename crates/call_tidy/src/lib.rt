@@ -1,5 +1,5 @@
 // The operator's call that tidies: the listed segments get the lowest numbers.
-#![tactic(auto)]
+#![tactic(auto, using(crate::proofs::Laws::tests))]
 
 ghost use Rattle.std.specs.Prelude.{not, ◌≡◌, length};
 ghost use Rattle.placing.specs.Sizes.{tables_length};
@@ -16,12 +16,10 @@ fn nothing_open(tables: &[u32]) -> bool
     requires { length tables.now ≡ tables_length }
     ensures { result ≡ not (has_open (house_of tables.now)) }
 {
-    let mut entry: usize = 0;
-    while entry < ENTRIES {
+    for entry in 0..ENTRIES {
         if tables[OPENINGS_START + OPENING_LENGTH * entry] == 1 {
             return false;
         }
-        entry += 1;
     }
     true
 }
@@ -31,17 +29,17 @@ pub fn tidy(store: &mut [u32], tables: &mut [u32]) -> Answer
     ensures { outcome result store.new tables.new ≡ tidy_out store.old tables.old }
 {
     if !sound::sound(tables, store.len()) {
-        return Answer::Refused(Refusal::Tables);
+        return Err(Refusal::Tables);
     }
     if !nothing_open(tables) {
-        return Answer::Refused(Refusal::NotNow);
+        return Err(Refusal::NotNow);
     }
     let mut room = [0u32; ROOM];
     let count = tidy_plan::plan(tables, &mut room);
     if count == 0 {
-        return Answer::Done(0);
+        return Ok(0);
     }
     moves_carry::carry(store, tables, &room[0..2 * count]);
     let cells = (SEGMENT_CELLS * count) as u32;
-    Answer::Done(cells)
+    Ok(cells)
 }

@@ -2,12 +2,12 @@
 use Prim.Native.Nat.{ℕ, ◌*◌}
 use mathlib.Core.Path.{◌≡◌, refl, sym, ap, subst, ◌∙◌}
 use mathlib.Core.Logic.{⊎_elim}
-use mathlib.Core.Bool.{true, false, ◌&&◌}
+use mathlib.Core.Bool.{Bool, true, false, not, ◌&&◌}
 use mathlib.Core.List.{List}
 use lib.ListN.{length}
-use borrow.Author.Tests.{eq-eqb}
+use borrow.Author.Tests.{eq-eqb, eqb-true}
 use lib.Dec.{eqb}
-use Rattle.combine.specs.Laws.Below.{split-bool}
+use Rattle.combine.specs.Laws.Below.{split-bool, was-true, was-false, left-of, right_of}
 use Rattle.combine.specs.Laws.Rows.{each_of}
 use Rattle.combine.specs.Verdict.{done, refused, refuse◌when◌else◌}
 use Rattle.combine.specs.Outcome.{outcome_of, settle}
@@ -16,19 +16,38 @@ use Rattle.tables.specs.Laws.Sound.{Ranged, ranged-of}
 use Rattle.image.specs.Image.{Form, image_length, image_of, imageb, tables_from}
 use Rattle.image.specs.Reformed.{reachesb, reformed_out}
 
-module _ (f g : Form) (img buffer : List ℕ) (n : ℕ) where
-  -- what the code tests at once: the image is sound, and the buffer has the length of the other form
-  pub wrong-image : (imageb f (segment_cells * n) img && eqb (length buffer) (image_length g)) ≡ false → outcome_of (refused 22) buffer ≡ reformed_out f g img buffer n
+-- r is whether the image is sound, m the length of the other form: the code tests at once that the image is sound and that the buffer is so long
+module _ (f g : Form) (img buffer : List ℕ) (n : ℕ) (r : Bool) (m : ℕ) (er : r ≡ imageb f (segment_cells * n) img) (em : m ≡ image_length g) where
+  abbrev fits : Bool
+  fits = imageb f (segment_cells * n) img && eqb (length buffer) (image_length g)
+
+  abbrev Tested : Bool → Type 0
+  Tested b = not (r && eqb (length buffer) m) ≡ b
+
+  same : (r && eqb (length buffer) m) ≡ fits
+  same = λ j. er j && eqb (length buffer) (em j)
+
+  pub wrong-image : Tested true → outcome_of (refused 22) buffer ≡ reformed_out f g img buffer n
   unfolding reformed_out refuse◌when◌else◌ settle
-  wrong-image h = ⊎_elim (λ s. rw (s, rw s at h) refl) (λ s. rw s refl) (split-bool (imageb f (segment_cells * n) img))
+  wrong-image w = let h = was-false w same in ⊎_elim (λ s. rw (s, rw s at h) refl) (λ s. rw s refl) (split-bool (imageb f (segment_cells * n) img))
 
-  module _ (sound : imageb f (segment_cells * n) img ≡ true) where
-    -- the tables of a sound image are sound
-    pub made-ranged : (t : List ℕ) → t ≡ tables_from f img → Ranged t
-    unfolding imageb
-    made-ranged t made = subst Ranged (sym made) (ranged-of (segment_cells * n) (tables_from f img) (each_of _ sound).1.1.1.1.0)
+  module _ (w : Tested false) where
+    sound : imageb f (segment_cells * n) img ≡ true
+    sound = left-of _ (eqb (length buffer) (image_length g)) (was-true w same)
 
-    module _ (long : length buffer ≡ image_length g) (t : List ℕ) (made : t ≡ tables_from f img) where
+    pub long : length buffer ≡ image_length g
+    long = eqb-true _ _ (right_of (imageb f (segment_cells * n) img) _ (was-true w same))
+
+    -- t is made of the image where that is sound
+    module _ (t : List ℕ) (makes : r ≡ true → t ≡ tables_from f img) where
+      made : t ≡ tables_from f img
+      made = makes (er ∙ sound)
+
+      -- the tables of a sound image are sound
+      pub made-ranged : Ranged t
+      unfolding imageb
+      made-ranged = subst Ranged (sym made) (ranged-of (segment_cells * n) (tables_from f img) (each_of _ sound).1.1.1.1.0)
+
       pub too_far : reachesb g t ≡ false → outcome_of (refused 24) buffer ≡ reformed_out f g img buffer n
       unfolding reformed_out refuse◌when◌else◌ settle
       too_far h =

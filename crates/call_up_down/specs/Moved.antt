@@ -1,6 +1,5 @@
 -- What a contract says of the code's answer, and of the lent buffer's cells. Assumes nothing.
-use Rattle.answers.specs.declared.Answer.{Answer}
-use Rattle.answers.specs.Said.{said}
+use Rattle.answers.specs.Said.{Answer, said}
 use Rattle.combine.specs.Outcome.{Outcome, outcome_of}
 use Rattle.placing.specs.Sizes.{Cells}
 

@@ -18,8 +18,7 @@ fn reaches(form: Form, tables: &[u32]) -> bool
     ensures { result ≡ reachesb (form_of form) tables.now }
 {
     let greatest = form.greatest_end();
-    let mut p = 0;
-    while p < PLACES {
+    for p in 0..PLACES {
         let at = RECORDS_START + RECORD_LENGTH * p;
         let begin = Position::of(tables[at + layout::RECORD_BEGIN]);
         let end = Position::of(tables[at + layout::RECORD_END]);
@@ -29,7 +28,6 @@ fn reaches(form: Form, tables: &[u32]) -> bool
         if greatest < end.number() {
             return false;
         }
-        p += 1;
     }
     true
 }
@@ -50,13 +48,13 @@ fn moved(
     let fits = buffer.len() == to.image_length();
     let reached = reaches(to, beside);
     if !(sound & fits) {
-        return Answer::Refused(Refusal::Image);
+        return Err(Refusal::Image);
     }
     if !reached {
-        return Answer::Refused(Refusal::Far);
+        return Err(Refusal::Far);
     }
     image_code::put_image(to, beside, buffer);
-    Answer::Done(0)
+    Ok(0)
 }
 
 // "A sound form 1 image always moves up."

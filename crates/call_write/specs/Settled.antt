@@ -1,6 +1,6 @@
 -- A plan carried out, and the act that writes a number. Assumes nothing.
-use Rattle.std.specs.Prelude.{ℕ, ◌+◌, ◌≤◌, ◌<◌, List}
-use Rattle.combine.specs.Verdict.{done}
+use Rattle.std.specs.Prelude.{ℕ, ◌+◌, ◌≤◌, ◌<◌, List, Ok}
+use Rattle.combine.specs.Verdict.{Verdict, done}
 use Rattle.combine.specs.Outcome.{Outcome, outcome_of}
 use Rattle.placing.specs.declared.Segment.{Segment}
 use Rattle.placing.specs.Sizes.{greatest_end, greatest_species}
@@ -9,11 +9,14 @@ use Rattle.store.specs.Store.{put_element}
 use Rattle.numbers.specs.declared.Number.{Number}
 use Rattle.numbers.specs.declared.Number.TheVariants.{Plain, Signed}
 use Rattle.rules.specs.Calls.{Act, write, write_signed}
+use Rattle.rules.specs.Effects.{Use}
 use Rattle.tables.specs.declared.Opening.{Opening}
 use Rattle.tables.specs.Layout.{put_opening}
 use Rattle.tables.specs.Fields.{value_of}
 use Rattle.tables.specs.Handles.{pointed}
 use Rattle.cells.specs.Outcomes.{Lent, lent}
+use Rattle.write_plan.specs.declared.Plan.{Plan}
+use Rattle.write_plan.specs.Plans.{Planned}
 
 -- the element goes to segment g, "v grows by 1"
 unfoldable pub settled : List ℕ → List ℕ → ℕ → Opening → ℕ → ℕ → Segment → Outcome Lent
@@ -26,6 +29,10 @@ pub record Moves (o : Opening) (p : ℕ) : Type 0 where
   pub known : p < 8
   pub some : 1 ≤ value_of o p
   pub small : value_of o p < greatest_end
+
+-- the plan was decided, by some verdict on the bits of each number
+abbrev pub Chosen : List ℕ → Opening → ℕ → Plan → Type 0
+Chosen t o p plan = (verdict : ℕ → Verdict Use) × Planned t o p verdict (Ok plan)
 
 -- the act, by the kind of its number
 abbrev pub write_of : (pointer : ℕ) → Number → Act

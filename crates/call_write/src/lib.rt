@@ -1,20 +1,21 @@
 // The calls `write` and `write_signed`: a plan is decided, and carried out.
 #![tactic(auto)]
 
-ghost use Rattle.std.specs.Prelude.{◌≡◌, ◌+◌, ◌*◌, ◌≤◌, ◌<◌, length};
+ghost use Rattle.std.specs.Prelude.{ℕ, ◌≡◌, ◌+◌, ◌*◌, ◌≤◌, ◌<◌, length, Ok};
+ghost use Rattle.combine.specs.Verdict.{Verdict};
 ghost use Rattle.placing.specs.Sizes.{segment_cells, tables_length, entries};
 ghost use Rattle.numbers.specs.Numbers.{is_signed, too_wide, bits_of};
 ghost use Rattle.rules.specs.Calls.{uses, write, write_signed};
+ghost use Rattle.rules.specs.Effects.{Use};
 ghost use Rattle.tables.specs.Layout.{segments_in, opening_at};
 ghost use Rattle.cells.specs.Outcomes.{outcome, request_out};
 ghost use Rattle.gate_laws.specs.Standing.{Standing};
 ghost use Rattle.gate_laws.specs.Known.{Known};
 ghost use Rattle.gate_laws.specs.Used.{used_out};
 ghost use Rattle.write_plan.specs.Plans.{write_verdict, Planned};
-ghost use Rattle.call_write.specs.Settled.{settled, Moves, write_of};
+ghost use Rattle.call_write.specs.Settled.{settled, Moves, Chosen, write_of};
 
 use answers::Answer;
-use gate::Gate;
 use numbers::Number;
 use placing::Segment;
 use tables::Opening;
@@ -37,31 +38,28 @@ fn settle(
     store::put_element(store, opening.species, segment, value, number);
     let after = opening.step(pointer, value.after());
     tables_openings::put_opening(tables, entry, after);
-    Answer::Done(0)
+    Ok(0)
 }
 
-// A plan that was decided for the opening, and for a number of its kind that is too wide or not, is carried out.
+// A plan that was decided for the opening is carried out for a number's bits, whatever the verdict was that gave it.
 pub fn carry(
     store: &mut [u32],
     tables: &mut [u32],
     entry: usize,
     opening: Opening,
     pointer: u32,
-    signed: bool,
-    wide: bool,
     bits: u32,
     plan: Plan,
 ) -> Answer
-    requires { (length tables.old ≡ tables_length) × (entry < entries) × (segments_in tables.old * segment_cells ≤ length store.old) × Known tables.old opening × Planned tables.old opening pointer (write_verdict tables.old opening pointer signed wide) plan }
-    ensures { outcome result store.new tables.new ≡ used_out store.old tables.old entry opening (write_verdict tables.old opening pointer signed wide bits) }
+    requires { (length tables.old ≡ tables_length) × (entry < entries) × (segments_in tables.old * segment_cells ≤ length store.old) × Known tables.old opening × Chosen tables.old opening pointer plan }
+    ensures { (verdict : ℕ → Verdict Use) → Planned tables.old opening pointer verdict (Ok plan) → outcome result store.new tables.new ≡ used_out store.old tables.old entry opening (verdict bits) }
 {
     match plan {
-        Plan::No(why) => Answer::Refused(why),
         // "Through 0: the first element is dropped, no segment is taken and no store cell changes."
         Plan::Drop => {
             let after = opening_steps::first_left(opening);
             tables_openings::put_opening(tables, entry, after);
-            Answer::Done(0)
+            Ok(0)
         }
         Plan::Put(own) => settle(store, tables, entry, opening, pointer, own, bits),
         Plan::Copy(place, shared, taken) => {
@@ -91,10 +89,15 @@ fn write_at(
     let opening = tables_openings::load_opening(tables, at);
     let signed = numbers::is_signed(number);
     let wide = numbers::is_too_wide(opening.species, number);
-    let plan = write_plan::decide(tables, opening, pointer, signed, wide);
-    let bits = numbers::bits(number);
+    let plan = write_plan::decide(tables, opening, pointer, signed, wide)?;
     carry(
-        store, tables, at, opening, pointer, signed, wide, bits, plan,
+        store,
+        tables,
+        at,
+        opening,
+        pointer,
+        numbers::bits(number),
+        plan,
     )
 }
 
@@ -109,11 +112,8 @@ fn write_of(
 ) -> Answer
     ensures { outcome result store.new tables.new ≡ request_out (uses (write_of pointer number)) store.old tables.old user entry }
 {
-    let reached = gate::reach(store.len(), tables, user, entry);
-    match reached {
-        Gate::No(why) => Answer::Refused(why),
-        Gate::At(at) => write_at(store, tables, at, pointer, number),
-    }
+    let at = gate::reach(store.len(), tables, user, entry)?;
+    write_at(store, tables, at, pointer, number)
 }
 
 // Writes a number through a pointer of an entry of a user.

@@ -1,5 +1,6 @@
 -- "Through 0: the first element is dropped, no segment is taken and no store cell changes.": as long as the first stretch keeps an element, only the
 -- begin moves. i is an entry of 32, s the store's cells, t the tables', l a list of numbers. Assumes nothing.
+use Rattle.std.specs.Prelude.{Ok}
 use Prim.Native.Nat.{ℕ, ◌+◌, ◌≤◌, ◌<◌}
 use mathlib.Core.Path.{◌≡◌, refl, sym, ap, subst, ◌∙◌}
 use mathlib.Core.Bool.{false}
@@ -53,12 +54,12 @@ module _ (t : List ℕ) (o : Opening) (w : Known t o) (a : Stays o) where
   unfolding first_left
   begin-moves = rw held_stays refl
 
-  drop-planned : Planned t o 0 (write_verdict t o 0 false false) Drop
+  drop-planned : Planned t o 0 (write_verdict t o 0 false false) (Ok Drop)
   drop-planned =
       let f = w.file.first in
       let m = a.more in
       write-inside t o 0 false false _ refl a.kind (value_of o 0) refl _ refl (ne_eqb (value_of o 0) 0 (λ e. omega arith)) a.works (value_of o 0) refl _ refl
-      (le-ltb (value_of o 0) (value_of o 0) (omega arith)) (λ e. omega arith) Drop
+      (le-ltb (value_of o 0) (value_of o 0) (omega arith)) (λ e. omega arith) (Ok Drop)
       (inside-drop t o 0 false (value_of o 0) (value_of o 1) refl refl _ refl (lt-leb (value_of o 1) (value_of o 0) (omega arith)) refl refl)
 
 drop-steps : (s t : List ℕ) (i : ℕ) (w : Standing (length s) t i) → Stays (opening_at t i) → (n : ℕ) → too_wide (opening_at t i).species (Plain n) ≡ false → Steps i 0 (write 0 n) s t 0 s
@@ -67,7 +68,7 @@ drop-steps s t i w a n fits =
     let k = known s t i w in
     record {
       outcome = fitting-used s t i w 0 n fits
-          ∙ sym (carry-drop t o 0 false false Drop (drop-planned t o k a) s i n k (pointed o 0 (position (value_of o 0 + 1))) _ refl (sym (begin-moves t o k a)) refl);
+          ∙ sym (carry-drop t o 0 (write_verdict t o 0 false false) Drop (drop-planned t o k a) s i n k (pointed o 0 (position (value_of o 0 + 1))) _ refl (sym (begin-moves t o k a)) refl);
     }
 
 -- ---- k elements are dropped, where more than k lie ahead in the first stretch

@@ -1,5 +1,6 @@
 -- A segment that an opening holds alone: a write into it is put there, and so is the write at each later position of the stretch. t are the
 -- tables' cells, o an opening, p a pointer, g a segment. Assumes nothing.
+use Rattle.std.specs.Prelude.{Ok}
 use Prim.Native.Nat.{ℕ, zero, suc, ◌+◌, ◌-◌, ◌≤◌, ◌<◌}
 use mathlib.Core.Path.{◌≡◌, refl, sym, ap, subst, ◌∙◌}
 use mathlib.Core.Logic.{◌≢◌, ⊎_elim}
@@ -55,7 +56,7 @@ pub record Own (t : List ℕ) (o : Opening) (p : ℕ) (g : Segment) : Type 0 whe
 -- ---- a write there is put
 
 module _ (t : List ℕ) (o : Opening) (w : Known t o) (g : Segment) where
-  seat : (p : ℕ) → Own t o p g → Seats o p → Planned t o p (seat_verdict t o p) (Put g)
+  seat : (p : ℕ) → Own t o p g → Seats o p → Planned t o p (seat_verdict t o p) (Ok (Put g))
   seat p a z =
       seat-put t o p w z (position (value_of o p)) refl (slot_of o.species (value_of o 0) (value_of o p)) refl (held_of o.species (value_of o 0) (value_of o 1)) refl a.held g
       (sym a.there) false (sym a.alone) refl
@@ -66,7 +67,7 @@ module _ (t : List ℕ) (o : Opening) (w : Known t o) (g : Segment) where
   from : (p : ℕ) → Own t o p g → ltb (value_of o p) (value_of o 0) ≡ false
   from p a = le-ltb (value_of o p) (value_of o 0) a.low
 
-  append-planned : Own t o 1 g → Planned t o 1 (write_verdict t o 1 false false) (Put g)
+  append-planned : Own t o 1 g → Planned t o 1 (write_verdict t o 1 false false) (Ok (Put g))
   append-planned a =
       let f = w.file in
       let e = position (value_of o 1) in
@@ -76,20 +77,20 @@ module _ (t : List ℕ) (o : Opening) (w : Known t o) (g : Segment) where
       let l : leb greatest_end (value_of o 1) ≡ false = lt-leb greatest_end (value_of o 1) (omega (arith, a.below, limit-end o 1 refl)) in
       let few : h ≤ most_held =
       omega (arith, end-holds o m f x refl, held-behind o.species f.species (value_of o 0) f.first (value_of o 1) f.order, a.held, f.few) in
-      write-append t o 1 false false _ refl a.kind (value_of o 1) refl _ refl (some 1 a) a.works (value_of o 0) refl _ refl (from 1 a) refl (Put g)
-      (append-on t o false refl e refl _ refl l w x refl m refl h refl few (Put g) (seat 1 a (append-seats t o false refl e refl _ refl l w x refl m refl h refl few)))
+      write-append t o 1 false false _ refl a.kind (value_of o 1) refl _ refl (some 1 a) a.works (value_of o 0) refl _ refl (from 1 a) refl (Ok (Put g))
+      (append-on t o false refl e refl _ refl l w x refl m refl h refl few (Ok (Put g)) (seat 1 a (append-seats t o false refl e refl _ refl l w x refl m refl h refl few)))
 
-  inner-planned : (p : ℕ) → Own t o p g → p ≢ 1 → Planned t o p (write_verdict t o p false false) (Put g)
+  inner-planned : (p : ℕ) → Own t o p g → p ≢ 1 → Planned t o p (write_verdict t o p false false) (Ok (Put g))
   inner-planned p a d =
       let high : leb (value_of o 1) (value_of o p) ≡ false = lt-leb (value_of o 1) (value_of o p) (omega (arith, a.below, limit-other o p d)) in
-      write-inside t o p false false _ refl a.kind (value_of o p) refl _ refl (some p a) a.works (value_of o 0) refl _ refl (from p a) d (Put g)
-      (inside_on t o p false (value_of o p) (value_of o 1) refl refl _ refl high refl (ne_eqb p 0 a.inner) (Put g)
+      write-inside t o p false false _ refl a.kind (value_of o p) refl _ refl (some p a) a.works (value_of o 0) refl _ refl (from p a) d (Ok (Put g))
+      (inside_on t o p false (value_of o p) (value_of o 1) refl refl _ refl high refl (ne_eqb p 0 a.inner) (Ok (Put g))
       (seat p a (inside-seats t o p false (value_of o p) (value_of o 1) refl refl _ refl high w a.low)))
 
-  pub own-planned : (p : ℕ) → Own t o p g → Planned t o p (write_verdict t o p false false) (Put g)
+  pub own-planned : (p : ℕ) → Own t o p g → Planned t o p (write_verdict t o p false false) (Ok (Put g))
   own-planned p a =
       ⊎_elim
-      (λ (e : p ≡ 1). subst (λ (q : ℕ). Own t o q g → Planned t o q (write_verdict t o q false false) (Put g)) (sym e) append-planned a)
+      (λ (e : p ≡ 1). subst (λ (q : ℕ). Own t o q g → Planned t o q (write_verdict t o q false false) (Ok (Put g))) (sym e) append-planned a)
       (λ d. inner-planned p a d) (eq-or-ne p 1)
 
 -- ---- a later position of the stretch: the pointer is j further on, and the opening was put back so

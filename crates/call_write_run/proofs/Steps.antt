@@ -59,7 +59,7 @@ module _ (s t : List ℕ) (i : ℕ) (w : Standing (length s) t i) where
       let o = opening_at t i in
       record {
         outcome = fitting-used s t i w p n fits
-            ∙ sym (carry-put t o p false false (Put g) (own-planned t o known g p a) s i n known g (settled s t i o p n g) refl refl);
+            ∙ sym (carry-put t o p (write_verdict t o p false false) (Put g) (own-planned t o known g p a) s i n known g (settled s t i o p n g) refl refl);
       }
 
 module _ (s t : List ℕ) (i : ℕ) (w : Standing (length s) t i) where

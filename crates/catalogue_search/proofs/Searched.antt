@@ -1,9 +1,8 @@
 -- What a search finds. Assumes nothing.
 use Prim.Native.Nat.{ℕ, ◌≤◌, ◌<◌}
 use mathlib.Core.Path.{◌≡◌, refl, sym, ap, ◌∙◌}
-use mathlib.Core.Bool.{Bool, true, false, cond}
+use mathlib.Core.Bool.{Bool, true, cond}
 use mathlib.Core.List.{List}
-use native.Mathlib.Nat.{le_antisymm}
 use lib.Dec.{ltb}
 use borrow.Author.Tests.{lt-ltb, le-ltb}
 use Rattle.combine.specs.First.{first_below}
@@ -19,14 +18,8 @@ module _ (f : ℕ → Bool) (n k : ℕ) (before : first_below k f ≡ k) where
   pub found_here : f k ≡ true → k < n → k ≡ first_below n f
   found_here e l = sym (first-at f n k before e l)
 
-  pub found_nowhere : k ≤ n → n ≤ k → k ≡ first_below n f
-  found_nowhere l m = sym before ∙ ap (λ (j : ℕ). first_below j f) (le_antisymm l m)
-
   pub found_below : f k ≡ true → k < n → true ≡ ltb (first_below n f) n
   found_below e l = sym (ap (λ (j : ℕ). ltb j n) (first-at f n k before e l) ∙ lt-ltb k n l)
-
-  pub none_below : k ≤ n → n ≤ k → false ≡ ltb (first_below n f) n
-  none_below l m = sym (ap (λ (j : ℕ). ltb j n) (sym (found_nowhere l m)) ∙ le-ltb k n m)
 
 -- "Look-up takes the user's own record of that name first, then a public one"
 module _ (t : List ℕ) (u : ℕ) (n : List ℕ) (own : ℕ) (e : own ≡ first_below places (another (sought (Own u) n) t 0)) where

@@ -47,7 +47,7 @@ fn fits(row: &[u32], wanted: Wanted, name: &[u32; NAME_SYMBOLS]) -> bool
     ) {
         return false;
     }
-    combine::same_cells(&row[layout::RECORD_NAME..layout::RECORD_OWNER], name)
+    row[layout::RECORD_NAME..layout::RECORD_OWNER] == name[..]
 }
 
 // The same of the record at a place, but for the one that the number of an opening names.
@@ -65,23 +65,21 @@ fn fits_at(
         return false;
     }
     let from = RECORDS_START + RECORD_LENGTH * place;
-    let to = from + RECORD_LENGTH;
-    fits(&tables[from..to], wanted, name)
+    fits(&tables[from..from + RECORD_LENGTH], wanted, name)
 }
 
-// The lowest place with such a record; 64, where there is none.
+// The lowest place with such a record; 64, where there is none, and no Option: so the rules say it (`look_up`, `place_for`), and
+// the clauses here name them.
 pub fn find(tables: &[u32], wanted: Wanted, name: &[u32; NAME_SYMBOLS], but: usize) -> usize
     requires { length tables.now ≡ tables_length }
     ensures { result ≡ first_below places (another (sought wanted name.now) tables.now but) }
 {
-    let mut place = 0;
-    while place < PLACES {
+    for place in 0..PLACES {
         if fits_at(tables, wanted, name, but, place) {
             return place;
         }
-        place += 1;
     }
-    place
+    PLACES
 }
 
 // "Look-up takes the user's own record of that name first, then a public one"; 64, where there is neither.
@@ -101,14 +99,12 @@ pub fn unused(tables: &[u32]) -> usize
     requires { length tables.now ≡ tables_length }
     ensures { result ≡ first_below places (λ q. not (is_used (record_at tables.now q))) }
 {
-    let mut lowest = 0;
-    while lowest < PLACES {
+    for lowest in 0..PLACES {
         if tables[RECORDS_START + RECORD_LENGTH * lowest] != 1 {
             return lowest;
         }
-        lowest += 1;
     }
-    lowest
+    PLACES
 }
 
 // Whether an opening keeps others from the record at a place.
@@ -133,14 +129,11 @@ pub fn busy(tables: &[u32], place: u32, work: bool) -> bool
     requires { (length tables.now ≡ tables_length) × (place < places) }
     ensures { result ≡ ltb (first_below entries (λ i. keeps_off work place (opening_at tables.now i))) entries }
 {
-    let mut entry = 0;
-    while entry < ENTRIES {
+    for entry in 0..ENTRIES {
         let from = OPENINGS_START + OPENING_LENGTH * entry;
-        let to = from + OPENING_LENGTH;
-        if keeps_off(&tables[from..to], place, work) {
+        if keeps_off(&tables[from..from + OPENING_LENGTH], place, work) {
             return true;
         }
-        entry += 1;
     }
     false
 }

@@ -1,9 +1,8 @@
 -- Every call, on the cells of store and tables: s is the store's cells, t the tables', u a user, e an entry. Assumes nothing.
 use Rattle.std.specs.Prelude.{ℕ, Bool, ◌&&◌, [], eqb, leb, length, get_or}
 use Rattle.std.proofs.Math.Option.{none}
-use Rattle.answers.specs.declared.Answer.{Answer}
+use Rattle.answers.specs.Said.{Answer, said}
 use Rattle.combine.specs.Verdict.{done, on_done}
-use Rattle.answers.specs.Said.{said}
 use Rattle.combine.specs.Outcome.{Outcome, outcome_of, settle}
 use Rattle.combine.specs.Run.{Ran, run_over, admitted}
 use Rattle.placing.specs.Sizes.{Cells, least_store, tables_length, entry_of, fresh_segments}

@@ -3,8 +3,7 @@ use Rattle.std.specs.Prelude.{ℤ}
 use Rattle.combine.specs.Verdict.{Verdict, on_done}
 use Rattle.combine.specs.Outcome.{Outcome}
 use Rattle.numbers.specs.Numbers.{signed_of}
-use Rattle.answers.specs.declared.SignedAnswer.{SignedAnswer}
-use Rattle.answers.specs.Said.{said_signed}
+use Rattle.answers.specs.Said.{SignedAnswer, said_signed}
 use Rattle.placing.specs.Sizes.{Cells}
 use Rattle.cells.specs.Outcomes.{Lent, lent}
 

@@ -1,10 +1,12 @@
 -- The chain of refusals of a close, by the cases that the code goes through. Assumes nothing.
+use Rattle.std.specs.Prelude.{Ok, Err}
 use Prim.Native.Nat.{ℕ, ◌-◌, ◌≤◌, ◌<◌}
 use mathlib.Core.Path.{◌≡◌, refl, sym, ap, ◌∙◌}
 use mathlib.Core.Logic.{◌≢◌}
 use mathlib.Core.Bool.{Bool, true, false, not, ◌&&◌, ◌||◌, cond, and-true, and-false}
 use mathlib.Core.Option.{Option, none, some}
 use mathlib.Core.List.{List}
+use native.Mathlib.Omega.{arith}
 use lib.Dec.{eqb, leb, ltb}
 use borrow.Author.Tests.{le-leb, lt-leb, lt-ltb, le-ltb, eq-eqb, ne_eqb, not-true, not-false}
 use Rattle.combine.specs.Laws.Below.{bad-left, bad-right, or_left, or_right}
@@ -25,17 +27,17 @@ use Rattle.tables.specs.Handles.{handle_in, place_of}
 use Rattle.catalogue_laws.specs.Places.{headings, another, headings-long, any-another, first-unused}
 use Rattle.catalogue_search.specs.declared.Wanted.TheVariants as W
 use Rattle.catalogue_search.specs.Sought.{sought}
-use Rattle.close_choice.specs.declared.Plan.TheVariants.{No, Ends, Unfiles, Files}
+use Rattle.close_choice.specs.declared.Plan.TheVariants.{Ends, Unfiles, Files}
 use Rattle.close_choice.specs.Planned.{planned, takenb, ending_of, filing_of}
 
 -- the place that a number names
-place-of : (k : ℕ) → k ≢ 0 → place_of k ≡ some (k - 1)
-place-of k d = rw (ne_eqb k 0 d)
+place-of : (k p : ℕ) → (1 ≤ k) × (p ≡ k - 1) → place_of k ≡ some p
+place-of k p e = rw (ne_eqb k 0 (λ z. omega arith), e.1)
 
 -- ---- no record is written
 
 module _ (permit k : ℕ) (public : Bool) (u : ℕ) (o : Opening) where
-  pub not-public : public ≡ true → planned u o (No Public) ≡ ending_of permit k public
+  pub not-public : public ≡ true → planned u o (Err Public) ≡ ending_of permit k public
   unfolding planned ending_of
   not-public e = sym (refused-here 18 _ _ e)
 
@@ -44,7 +46,7 @@ module _ (permit k : ℕ) (public : Bool) (u : ℕ) (o : Opening) where
     unfolding ending_of
     ends_as = went_on 18 _ _ _ private refl
 
-    pub read-ends : permit ≢ 1 → planned u o Ends ≡ ending_of permit k public
+    pub read-ends : permit ≢ 1 → planned u o (Ok Ends) ≡ ending_of permit k public
     unfolding planned
     read-ends d = sym (ends_as ∙ ap (λ (b : Bool). done (cond b (vanish (place_of k)) ended)) (ne_eqb permit 1 d))
 
@@ -52,13 +54,13 @@ module _ (permit k : ℕ) (public : Bool) (u : ℕ) (o : Opening) where
       vanishes : ending_of permit k public ≡ done (vanish (place_of k))
       vanishes = ends_as ∙ ap (λ (b : Bool). done (cond b (vanish (place_of k)) ended)) (eq-eqb permit 1 work)
 
-      pub scratch-ends : k ≡ 0 → planned u o Ends ≡ ending_of permit k public
+      pub scratch-ends : k ≡ 0 → planned u o (Ok Ends) ≡ ending_of permit k public
       unfolding planned
       scratch-ends e = sym (vanishes ∙ ap (λ (b : Bool). done (vanish (cond b none (some (k - 1))))) (eq-eqb k 0 e))
 
-      pub record_freed : k ≢ 0 → planned u o (Unfiles (k - 1)) ≡ ending_of permit k public
+      pub record_freed : (p : ℕ) → (1 ≤ k) × (p ≡ k - 1) → planned u o (Ok (Unfiles p)) ≡ ending_of permit k public
       unfolding planned
-      record_freed d = sym (vanishes ∙ ap (λ (x : Option ℕ). done (vanish x)) (place-of k d))
+      record_freed p e = sym (vanishes ∙ ap (λ (x : Option ℕ). done (vanish x)) (place-of k p e))
 
 -- ---- the name is taken
 
@@ -96,13 +98,13 @@ module _ (t : List ℕ) (u : ℕ) (n : List ℕ) (k : ℕ) (public : Bool) where
 pub new-place : (t : List ℕ) (k p : ℕ) → k ≡ 0 → p ≡ first_below places (λ q. not (is_used (record_at t q))) → p ≡ place_for (headings t) (place_of k)
 new-place t k p e ep = ep ∙ sym (first-unused t) ∙ ap (λ (b : Bool). place_for (headings t) (cond b none (some (k - 1)))) (sym (eq-eqb k 0 e))
 
-pub old-place : (t : List ℕ) (k : ℕ) → k ≢ 0 → k - 1 ≡ place_for (headings t) (place_of k)
-old-place t k d = ap (place_for (headings t)) (sym (place-of k d))
+pub old-place : (t : List ℕ) (k p : ℕ) → (1 ≤ k) × (p ≡ k - 1) → p ≡ place_for (headings t) (place_of k)
+old-place t k p e = ap (place_for (headings t)) (sym (place-of k p e))
 
 -- ---- a record is written
 
 module _ (t : List ℕ) (u : ℕ) (n : List ℕ) (k : ℕ) (public : Bool) (o : Opening) (r : Bool) (er : r ≡ takenb (without (headings t) (place_of k)) u n public) where
-  pub name-taken : r ≡ true → planned u o (No Taken) ≡ filing_of t u n k public (handle_in o)
+  pub name-taken : r ≡ true → planned u o (Err Taken) ≡ filing_of t u n k public (handle_in o)
   unfolding planned filing_of
   name-taken e = sym (refused-here 16 _ _ (sym er ∙ e))
 
@@ -111,11 +113,11 @@ module _ (t : List ℕ) (u : ℕ) (n : List ℕ) (k : ℕ) (public : Bool) (o : 
     unfolding filing_of
     goes-on = went_on 16 _ _ _ (sym er ∙ free) (ap (λ (x : ℕ). refuse◌when◌else◌ 17 (leb places x) (done (filed x (headed public u (handle_in o))))) (sym ep))
 
-    pub no_place : places ≤ p → planned u o (No Place) ≡ filing_of t u n k public (handle_in o)
+    pub no_place : places ≤ p → planned u o (Err Place) ≡ filing_of t u n k public (handle_in o)
     unfolding planned
     no_place l = sym (goes-on ∙ refused-here 17 _ _ (le-leb places p l))
 
-    pub becomes-record : p < places → planned u o (Files p public) ≡ filing_of t u n k public (handle_in o)
+    pub becomes-record : p < places → planned u o (Ok (Files p public)) ≡ filing_of t u n k public (handle_in o)
     unfolding planned
     becomes-record l = sym (goes-on ∙ went_on 17 _ _ _ (lt-leb places p l) refl)
 

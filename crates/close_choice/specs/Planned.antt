@@ -1,8 +1,9 @@
 -- What a plan says of user u's opening o, and what the chain of refusals is where a record is written, and where none is. Assumes nothing.
-use Rattle.std.specs.Prelude.{ℕ, ◌<◌, Bool, ◌&&◌, ◌||◌, cond, List, eqb, leb}
+use Rattle.std.specs.Prelude.{ℕ, ◌<◌, Bool, ◌&&◌, ◌||◌, cond, List, eqb, leb, Result, Ok, Err}
 use Rattle.std.proofs.Math.Option.{Option}
 use Rattle.combine.specs.Lists.{any}
 use Rattle.combine.specs.Verdict.{Verdict, refused, done, refuse◌when◌else◌}
+use Rattle.answers.specs.declared.Refusal.{Refusal}
 use Rattle.answers.specs.Said.{refusal_number}
 use Rattle.placing.specs.Sizes.{places}
 use Rattle.rules.specs.Headings.{Heading, Handle, passes}
@@ -12,20 +13,24 @@ use Rattle.tables.specs.declared.Opening.{Opening}
 use Rattle.tables.specs.Handles.{handle_in, place_of}
 use Rattle.catalogue_laws.specs.Places.{headings}
 use Rattle.close_choice.specs.declared.Plan.{Plan}
-use Rattle.close_choice.specs.declared.Plan.TheVariants.{No, Ends, Unfiles, Files}
+use Rattle.close_choice.specs.declared.Plan.TheVariants.{Ends, Unfiles, Files}
 
-unfoldable pub planned : ℕ → Opening → Plan → Verdict Effect
-planned u o (No why) = refused (refusal_number why)
-planned u o Ends = done ended
-planned u o (Unfiles p) = done (unfiled p)
-planned u o (Files p public) = done (filed p (headed public u (handle_in o)))
+-- the plan of a close, or its refusal
+abbrev pub Decision : Type 0
+Decision = Result Plan Refusal
+
+unfoldable pub planned : ℕ → Opening → Decision → Verdict Effect
+planned u o (Err why) = refused (refusal_number why)
+planned u o (Ok Ends) = done ended
+planned u o (Ok (Unfiles p)) = done (unfiled p)
+planned u o (Ok (Files p public)) = done (filed p (headed public u (handle_in o)))
 
 -- it can be carried out
-abbrev pub InRange : Plan → Type 0
-InRange (No why) = Unit {0}
-InRange Ends = Unit {0}
-InRange (Unfiles p) = p < places
-InRange (Files p public) = p < places
+abbrev pub InRange : Decision → Type 0
+InRange (Err why) = Unit {0}
+InRange (Ok Ends) = Unit {0}
+InRange (Ok (Unfiles p)) = p < places
+InRange (Ok (Files p public)) = p < places
 
 -- "another record has the same owner and name, or public is asked and another public record has the name"
 unfoldable pub takenb : List (Option Heading) → ℕ → List ℕ → Bool → Bool

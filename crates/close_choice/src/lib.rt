@@ -14,33 +14,32 @@ use catalogue_search::Wanted;
 use placing::{NAME_SYMBOLS, PLACES};
 use tables::Opening;
 
-// What is done with an opening: it ends; it ends and the record at a place is freed; it becomes the record at a place, public
-// or private.
+// What is done with an opening: it ends; it ends and the record at a place is freed; it becomes the record at a place,
+// public or private.
 #[derive(Clone, Copy)]
 pub enum Plan {
-    No(Refusal),
     Ends,
     Unfiles(usize),
     Files(usize, bool),
 }
 
-// Where no record is written: "Read: the opening ends. New scratch: the file vanishes. Old work renamed to scratch: its record
-// and all segments are freed."
-fn ending(permit: u32, place: u32, public: bool) -> Plan
+// Where no record is written: "Read: the opening ends. New scratch: the file vanishes. Old work renamed to scratch: its
+// record and all segments are freed."
+fn ending(permit: u32, place: u32, public: bool) -> Result<Plan, Refusal>
     requires { place ≤ places }
     ensures verdict { (u : ℕ) (o : opening.Opening) → planned u o result ≡ ending_of permit place public }
     ensures range { InRange result }
 {
     if public {
-        return Plan::No(Refusal::Public);
+        return Err(Refusal::Public);
     }
     if permit != 1 {
-        return Plan::Ends;
+        return Ok(Plan::Ends);
     }
-    if place == 0 {
-        return Plan::Ends;
+    match place.checked_sub(1) {
+        None => Ok(Plan::Ends),
+        Some(at) => Ok(Plan::Unfiles(at as usize)),
     }
-    Plan::Unfiles(place as usize - 1)
 }
 
 // "another record has the same owner and name, or public is asked and another public record has the name"
@@ -58,34 +57,42 @@ fn taken(tables: &[u32], user: u32, name: &[u32; NAME_SYMBOLS], place: u32, publ
     catalogue_search::find(tables, Wanted::Public, name, place as usize) < PLACES
 }
 
-// The record's place, "a new file in the lowest free place"; 64, where none is free.
+// The record's place, "a new file in the lowest free place"; 64 where none is free, and no `Option`: the rule's
+// `place_for`, which the clause names, and `unused` say it so, and an `Option` would only move the test of it from the
+// caller to here.
 fn place_for(tables: &[u32], place: u32) -> usize
     requires { length tables.now ≡ tables_length }
     ensures { result ≡ place_for (headings tables.now) (place_of place) }
 {
-    if place == 0 {
-        return catalogue_search::unused(tables);
+    match place.checked_sub(1) {
+        None => catalogue_search::unused(tables),
+        Some(at) => at as usize,
     }
-    place as usize - 1
 }
 
 // Where a record is written: "name, privacy, species, begin, end and segments become the record".
-fn filing(tables: &[u32], user: u32, name: &[u32; NAME_SYMBOLS], place: u32, public: bool) -> Plan
+fn filing(
+    tables: &[u32],
+    user: u32,
+    name: &[u32; NAME_SYMBOLS],
+    place: u32,
+    public: bool,
+) -> Result<Plan, Refusal>
     requires { length tables.now ≡ tables_length }
     ensures verdict { (o : opening.Opening) → planned user o result ≡ filing_of tables.now user name.now place public (handle_in o) }
     ensures range { InRange result }
 {
     if taken(tables, user, name, place, public) {
-        return Plan::No(Refusal::Taken);
+        return Err(Refusal::Taken);
     }
     let at = place_for(tables, place);
     if PLACES <= at {
-        return Plan::No(Refusal::Place);
+        return Err(Refusal::Place);
     }
-    Plan::Files(at, public)
+    Ok(Plan::Files(at, public))
 }
 
-pub fn decide(tables: &[u32], user: u32, opening: Opening, public: bool) -> Plan
+pub fn decide(tables: &[u32], user: u32, opening: Opening, public: bool) -> Result<Plan, Refusal>
     requires { (length tables.now ≡ tables_length) × (opening.place ≤ places) }
     ensures verdict { planned user opening result ≡ close_rule public user (headings tables.now) (handle_in opening) }
     ensures range { InRange result }

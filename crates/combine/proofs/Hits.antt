@@ -21,10 +21,10 @@ add-byte n false =
     let e : n + 0 ≡ n = omega arith in
     ap (λ (m : ℕ). eqb m 0) e ∙ sym (and-true (eqb n 0))
 
-pub hits-turn : (f : ℕ → Bool) (k times : ℕ) → eqb times 0 ≡ all_below k (λ j. not (f j)) → eqb (times + bool_byte (f k)) 0 ≡ all_below (k + 1) (λ j. not (f j))
-hits-turn f k times h =
-    add-byte times (f k) ∙ ap (λ (b : Bool). b && not (f k)) h ∙ sym (all-suc (λ j. not (f j)) k)
+-- where the test f hits, the test g fails
+pub hits-turn : (f g : ℕ → Bool) (k times : ℕ) → not (f k) ≡ g k → eqb times 0 ≡ all_below k g → eqb (times + bool_byte (f k)) 0 ≡ all_below (k + 1) g
+hits-turn f g k times e h =
+    add-byte times (f k) ∙ (λ j. h j && e j) ∙ sym (all-suc g k)
 
 pub hits-done : (row : List ℕ) (number k times : ℕ) → k ≡ length row → eqb times 0 ≡ all_below k (λ j. not (eqb number (get_or row j 0))) → not (eqb times 0) ≡ is_in number row
-hits-done row number k times e h =
-    ap not (h ∙ ap (λ (n : ℕ). all_below n (λ j. not (eqb number (get_or row j 0)))) e ∙ sym (not-in number row)) ∙ not-not (is_in number row)
+hits-done row number k times e h = ap not (rw e at h ∙ sym (not-in number row)) ∙ not-not (is_in number row)

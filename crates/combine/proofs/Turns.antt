@@ -1,45 +1,15 @@
--- A turn of each kind of loop over a row of cells. Assumes nothing.
-use Prim.Native.Nat.{ℕ, zero, suc, ◌+◌, ◌<◌}
-use mathlib.Core.Path.{◌≡◌, refl, sym, ap, ◌∙◌}
-use mathlib.Core.Bool.{Bool, true, false, ◌&&◌}
-use mathlib.Core.List.{List, [], ◌∷◌, ◌++◌}
-use native.Mathlib.Numerals.{add-one}
+-- A turn of the loop that gathers the bits of a row of cells. Assumes nothing.
+use Prim.Native.Nat.{ℕ, zero, suc, ◌+◌}
+use mathlib.Core.Path.{◌≡◌, sym, ap, ◌∙◌}
+use mathlib.Core.Bool.{◌&&◌}
+use mathlib.Core.List.{List}
 use native.Mathlib.Omega.{arith}
 use lib.Dec.{eqb, eqb-suc-zero}
 use lib.Bits.{bit_or, or_zero_l, or_add_and, and_le_r}
 use borrow.Author.Tests.{ne_eqb}
-use lib.ListN.{length, get_or, take, set}
-use lib.Seq.{take-suc, take-suc-set, take_all}
-use Rattle.combine.specs.Below.{all_below, failed}
+use lib.ListN.{get_or}
+use Rattle.combine.specs.Below.{all_below}
 use Rattle.combine.specs.Laws.Below.{all-suc}
-
--- the first k of a list are those of another: one more
-pub fill-turn : (wanted cells : List ℕ) (k v : ℕ) → k < length wanted → length cells ≡ length wanted → v ≡ get_or wanted k 0 → take k cells ≡ take k wanted → take (k + 1) (set cells k v) ≡ take (k + 1) wanted
-fill-turn wanted cells k v l n e t =
-    ap (λ (m : ℕ). take m (set cells k v)) (add-one k) ∙ take-suc-set cells k v (omega arith) ∙ (λ j. t j ++ (e j ∷ []))
-    ∙ sym (take-suc wanted k 0 l) ∙ ap (λ (m : ℕ). take m wanted) (sym (add-one k))
-
-pub fill_done : (wanted cells : List ℕ) (k : ℕ) → k ≡ length wanted → length cells ≡ length wanted → take k cells ≡ take k wanted → cells ≡ wanted
-fill_done wanted cells k e n t = sym (take_all k cells (omega arith)) ∙ t ∙ take_all k wanted (omega arith)
-
--- a sum is zero where both parts are
-sum-zero : (a b : ℕ) → (eqb a 0 && eqb b 0) ≡ eqb (a + b) 0
-sum-zero zero b =
-    let e : b ≡ zero + b = omega arith in
-    ap (λ (n : ℕ). eqb n 0) e
-sum-zero (suc a) b =
-    let e : suc (a + b) ≡ suc a + b = omega arith in
-    let l : (eqb (suc a) 0 && eqb b 0) ≡ eqb (suc (a + b)) 0 = rw (eqb-suc-zero a, eqb-suc-zero (a + b)) in
-    l ∙ ap (λ (n : ℕ). eqb n 0) e
-
-failed-none : (b : Bool) → eqb (failed b) 0 ≡ b
-failed-none true = refl
-failed-none false = refl
-
--- a number of tests failed that tells whether all before k are passed, with the next added
-pub sum-turn : (f : ℕ → Bool) (k sum v : ℕ) → v ≡ failed (f k) → eqb sum 0 ≡ all_below k f → eqb (sum + v) 0 ≡ all_below (k + 1) f
-sum-turn f k sum v e h =
-    sym (sum-zero sum v) ∙ (λ j. h j && (ap (λ (n : ℕ). eqb n 0) e ∙ failed-none (f k)) j) ∙ sym (all-suc f k)
 
 -- bits gathered are zero where both numbers are
 or-none : (a b : ℕ) → (eqb a 0 && eqb b 0) ≡ eqb (bit_or a b) 0

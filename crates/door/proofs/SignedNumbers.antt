@@ -6,12 +6,10 @@ use native.Mathlib.Omega.{arith}
 use lib.IntN.{ℤ, pos, negsuc, ◌+ℤ◌}
 use mir.Syntax.{w32, w64}
 use mir.Val.{Fits, SFits, of_z, to_z}
-use mir.ValLaws.{to_z-of_z, to_z_pos}
+use mir.ValLaws.{to_z-of_z}
 use Rattle.combine.specs.Verdict.{done}
 use Rattle.combine.specs.Outcome.{outcome_of}
-use Rattle.answers.specs.declared.Answer.{Answer}
-use Rattle.answers.specs.declared.SignedAnswer.{SignedAnswer}
-use Rattle.answers.specs.Said.{said, said_signed}
+use Rattle.answers.specs.Said.{Answer, SignedAnswer, said, said_signed}
 use Rattle.rules.specs.Calls.{uses, write_signed}
 use Rattle.cells.specs.Outcomes.{Lent, lent, request_out}
 use Rattle.cells.specs.Signed.{SignedOutcome, signed_outcome}
@@ -23,28 +21,17 @@ use Rattle.door.specs.Laws.SignedHanded.{hand-signed}
 -- ---- pack_signed: a done number of 32 bits, and a refusal's
 
 module _ (z : ℤ) (f : SFits w32 z) where
-  wider : SFits w64 z
-  wider = record { sfits = omega (arith, f.sfits) }
-
-  pub done-fits : SFits w64 (to_z w32 (of_z w32 z))
-  done-fits = rw (to_z-of_z w32 z f) wider
-
-  pub done-reads : to_z w64 (of_z w64 (to_z w32 (of_z w32 z))) ≡ z
-  done-reads = ap (λ (y : ℤ). to_z w64 (of_z w64 y)) (to_z-of_z w32 z f) ∙ to_z-of_z w64 z wider
+  pub done-reads : to_z w64 (of_z w64 z) ≡ z
+  done-reads = to_z-of_z w64 z (record { sfits = omega (arith, f.sfits) })
 
 pub done-packs : (z : ℤ) → SFits w32 z → PacksSigned (done z)
 done-packs (pos n) f = omega (arith, f.sfits)
 done-packs (negsuc k) f = tt
 
-module _ (n : ℕ) (f : Fits w32 n) where
-  refused-is : pos first_refused +ℤ to_z w64 n ≡ pos (first_refused + n)
-  refused-is = ap (λ (z : ℤ). pos first_refused +ℤ z) (to_z_pos w64 n (omega (arith, f.fits)))
-
-  pub refused-fits : SFits w64 (pos first_refused +ℤ to_z w64 n)
-  refused-fits = rw refused-is (record { sfits = omega (arith, f.fits) })
-
-  pub refused-reads : to_z w64 (of_z w64 (pos first_refused +ℤ to_z w64 n)) ≡ pos (first_refused + n)
-  refused-reads = to_z-of_z w64 (pos first_refused +ℤ to_z w64 n) refused-fits ∙ refused-is
+pub refused-reads : (n : ℕ) → Fits w32 n → to_z w64 (of_z w64 (pos first_refused +ℤ to_z w64 (of_z w64 (pos n)))) ≡ pos (first_refused + n)
+refused-reads n f =
+    ap (λ (z : ℤ). to_z w64 (of_z w64 (pos first_refused +ℤ z))) (to_z-of_z w64 (pos n) (record { sfits = omega (arith, f.fits) }))
+    ∙ to_z-of_z w64 (pos (first_refused + n)) (record { sfits = omega (arith, f.fits) })
 
 -- ---- the exports: a signed number that is handed out, and one that is taken
 

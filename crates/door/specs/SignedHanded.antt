@@ -1,5 +1,5 @@
 -- A signed answer as a caller in C or Rust is handed it: one number, below 0 too. Assumes nothing.
-use Rattle.std.specs.Prelude.{ℕ, ◌+◌, ◌<◌, ℤ, pos, negsuc}
+use Rattle.std.specs.Prelude.{◌+◌, ◌<◌, ℤ, pos, negsuc}
 use Rattle.combine.specs.Verdict.{Verdict, done, refused, on_done}
 use Rattle.cells.specs.Outcomes.{Lent}
 use Rattle.cells.specs.Signed.{SignedOutcome}

@@ -1,6 +1,6 @@
 // What C and Rust call: store, tables (and image) as lent slices, then the numbers or the name's bytes; the answer is one number. Nothing is
 // asked of a caller's numbers, lengths or cells.
-#![tactic(auto)]
+#![tactic(auto, unfolding(crate::specs::Handed::handed))]
 
 pub mod packed; // an answer as one number
 pub mod version; // the door's version

@@ -14,13 +14,13 @@ ghost use Rattle.tables.specs.Laws.ExtentFacts.{SoundExtent};
 ghost use Rattle.free_count.specs.Rows.{start_of};
 
 use placing::{
-    LISTS, MOST_SEGMENTS, OPENING_LENGTH, OPENINGS_START, PLACES, Position, RECORD_LENGTH,
-    RECORDS_START,
+    LISTS, OPENING_LENGTH, OPENINGS_START, PLACES, Position, RECORD_LENGTH, RECORDS_START,
 };
+use sound_lists::marks::mark_row;
 use tables::layout;
 
 // A mark for each segment.
-pub const MARKS: usize = MOST_SEGMENTS as usize;
+pub use sound_lists::marks::MARKS;
 
 // Where the lists of the first record and of the first opening start.
 const RECORD_LIST: usize = RECORDS_START + layout::RECORD_SEGMENTS;
@@ -72,45 +72,28 @@ pub fn held_in(tables: &[u32], i: usize) -> usize
     )
 }
 
-// Marks the numbers of a row.
-fn mark_row(row: &[u32], marks: &mut [u32; MARKS])
-    requires { (length marks.old ≡ most_segments) × ((k : ℕ) → k < length row.now → get_or row.now k 0 < most_segments) }
-    ensures size { length marks.new ≡ most_segments }
-    ensures by_index { (g : ℕ) → eqb (get_or marks.new g 0) 0 ≡ (eqb (get_or marks.old g 0) 0 && not (is_in g row.now)) }
-{
-    let mut k = 0;
-    while k < row.len() {
-        marks[row[k] as usize] = 1;
-        k += 1;
-    }
-}
-
 // How many of the first numbers are not marked.
-pub fn unmarked(marks: &[u32; MARKS], segments: u32) -> u32
+pub fn unmarked(marks: &[u8; MARKS], segments: u32) -> u32
     requires { segments ≤ most_segments }
     ensures { result ≡ count_below segments (λ g. eqb (get_or marks.now g 0) 0) }
 {
     let mut count: u32 = 0;
-    let mut number: usize = 0;
-    while number < segments as usize {
-        count += (marks[number] == 0) as u32;
-        number += 1;
+    for mark in &marks[..segments as usize] {
+        count += (*mark == 0) as u32;
     }
     count
 }
 
 // Marks the numbers that the lists hold.
-pub fn mark_lists(tables: &[u32], marks: &mut [u32; MARKS])
+pub fn mark_lists(tables: &[u32], marks: &mut [u8; MARKS])
     requires { Ranged tables.now × (length marks.old ≡ most_segments) }
     ensures size { length marks.new ≡ most_segments }
     ensures by_index { (g : ℕ) → eqb (get_or marks.new g 0) 0 ≡ (eqb (get_or marks.old g 0) 0 && is_free (house_of tables.now) g) }
 {
-    let mut list = 0;
-    while list < LISTS {
+    for list in 0..LISTS {
         let start = row_start(list);
         let count = held_in(tables, list);
         mark_row(&tables[start..start + count], marks);
-        list += 1;
     }
 }
 
@@ -119,7 +102,7 @@ pub fn free_count(tables: &[u32]) -> u32
     requires { Ranged tables.now }
     ensures { result ≡ free_count (house_of tables.now) }
 {
-    let mut marks = [0u32; MARKS];
+    let mut marks = [0u8; MARKS];
     mark_lists(tables, &mut marks);
     unmarked(&marks, tables[0])
 }

@@ -1,4 +1,4 @@
--- Places that go round: after the last of n comes the first. Assumes nothing.
+-- Places that go round: after the last of n comes the first. So the search scans the rows, from the row of the last mention on. Assumes nothing.
 use Rattle.std.specs.Prelude.{ℕ, ◌+◌, ◌-◌, ◌≤◌, ◌<◌, ◌≡◌, Bool, true, cond, ltb}
 use Rattle.std.proofs.Common.{sym, ap, ◌∙◌, ⊎_elim, arith, lt-ltb, le-ltb}
 use Rattle.combine.specs.Below.{all_below}

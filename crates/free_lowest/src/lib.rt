@@ -2,46 +2,51 @@
 #![tactic(auto)]
 
 ghost use Rattle.std.specs.Prelude.{◌≡◌, ◌+◌, ◌<◌, ◌≤◌, length};
-ghost use Rattle.placing.specs.Sizes.{most_segments, most_held, lists};
+ghost use Rattle.placing.specs.Sizes.{most_segments, most_held, tables_length, lists};
 ghost use Rattle.placing.specs.Placing.{segment};
 ghost use Rattle.segments.specs.Free.{lowest_free};
 ghost use Rattle.tables.specs.Laws.Sound.{Ranged};
 ghost use Rattle.cells.specs.Says.{house_of};
-ghost use Rattle.free_lowest.specs.Held.{HeldRows};
+ghost use Rattle.free_lowest.specs.Held.{HeldRows, numbers_in};
 ghost use Rattle.free_lowest.specs.Round.{wrapped};
 ghost use Rattle.free_lowest.specs.Run.{run_end};
 
 use placing::{LISTS, Segment};
 
-// The rows of the lists that hold a segment.
+// A list's row: where it starts in the tables, and how many numbers it holds.
 #[derive(Clone, Copy)]
-struct Rows {
-    number: usize,
-    starts: [usize; LISTS],
-    counts: [usize; LISTS],
+struct Row {
+    start: usize,
+    count: usize,
 }
 
-fn held_rows(tables: &[u32]) -> Rows
-    requires { Ranged tables.now }
-    ensures { HeldRows tables.now lists result.number result.starts result.counts }
+const NO_ROW: Row = Row { start: 0, count: 0 };
+
+// The numbers of the row.
+fn numbers_in(tables: &[u32], row: Row) -> &[u32]
+    requires { (row.start + row.count ≤ length tables.now) × (length tables.now ≡ tables_length) }
+    ensures { result.now ≡ numbers_in tables.now row }
 {
-    let mut starts = [0usize; LISTS];
-    let mut counts = [0usize; LISTS];
-    let mut number = 0;
-    let mut i = 0;
-    while i < LISTS {
-        let count = free_count::held_in(tables, i);
+    let end = row.start + row.count;
+    &tables[row.start..end]
+}
+
+// The rows of the lists that hold a segment, in the first places; how many they are.
+fn held_rows(tables: &[u32], rows: &mut [Row; LISTS]) -> usize
+    requires { Ranged tables.now × (length rows.old ≡ lists) }
+    ensures { HeldRows tables.now lists result rows.new × (length rows.new ≡ lists) }
+{
+    let mut held = 0;
+    for list in 0..LISTS {
+        let count = free_count::held_in(tables, list);
         // A row with no number is written over by the next.
-        starts[number] = free_count::row_start(i);
-        counts[number] = count;
-        number += (0 < count) as usize;
-        i += 1;
+        rows[held] = Row {
+            start: free_count::row_start(list),
+            count: count,
+        };
+        held += (0 < count) as usize;
     }
-    Rows {
-        number: number,
-        starts: starts,
-        counts: counts,
-    }
+    held
 }
 
 // The row after this one; after the last comes the first.
@@ -61,39 +66,36 @@ fn run_end(row: &[u32], number: u32) -> u32
     ensures { result ≡ run_end row.now number }
 {
     let mut next = number;
-    let mut passed = 0;
-    while passed < row.len() {
-        next += (row[passed] == next) as u32;
-        passed += 1;
+    for listed in row {
+        next += (*listed == next) as u32;
     }
     next
 }
 
 // "A taken segment is always the lowest-numbered free one": the number of segments, where none is free.
-// A file's segments usually stand together, and the next file's row usually follows: a scan starts at the row of the last
-// mention and goes round, and a mention passes the whole run that its row lists.
+// A file's segments usually stand together, and the next file's row usually follows: a scan starts at the row of the
+// last mention and goes round, and a mention passes the whole run that its row lists.
 pub fn lowest_free(tables: &[u32]) -> Segment
     requires { Ranged tables.now }
     ensures { result ≡ segment (lowest_free (house_of tables.now)) }
 {
     let segments = tables[0];
-    let rows = held_rows(tables);
+    let mut all = [NO_ROW; LISTS];
+    let held = held_rows(tables, &mut all);
+    let rows = &all[..held];
     let mut number: u32 = 0;
     let mut row: usize = 0;
     let found = 'search: loop {
         if segments <= number {
             break 'search segments;
         }
-        let mut scanned: usize = 0;
-        'scan: while scanned < rows.number {
-            let start = rows.starts[row];
-            let count = rows.counts[row];
-            if combine::lists(&tables[start..start + count], number) {
-                number = run_end(&tables[start..start + count], number);
+        for scanned in 0..rows.len() {
+            let listed = numbers_in(tables, rows[row]);
+            if combine::lists(listed, number) {
+                number = run_end(listed, number);
                 continue 'search;
             }
-            row = row_after(row, rows.number);
-            scanned += 1;
+            row = row_after(row, rows.len());
         }
         break 'search number;
     };

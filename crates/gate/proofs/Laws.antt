@@ -1,4 +1,5 @@
 -- Each way through the gate, as the code's steps give its premises. Assumes nothing.
+use Rattle.std.specs.Prelude.{Err, Ok}
 use Prim.Native.Nat.{ℕ, ◌*◌, ◌<◌}
 use mathlib.Core.Path.{◌≡◌, refl, sym, ap, ◌∙◌}
 use mathlib.Core.Bool.{Bool, true, false, not}
@@ -16,12 +17,10 @@ use Rattle.placing.specs.Sizes.{entries, opening_length}
 use Rattle.tables.specs.Layout.{opening_base, opening_of, opening_at}
 use Rattle.tables.specs.Fields.{is_open}
 use Rattle.tables.specs.Laws.Sound.{ranged-of}
-use Rattle.gate.specs.declared.Gate.{Gate}
-use Rattle.gate.specs.declared.Gate.TheVariants.{No, At}
-use Rattle.gate.specs.Gates.{refusing, pass_of, reach_of, opened}
+use Rattle.gate.specs.Gates.{Gate, refusing, pass_of, reach_of, opened}
 use Rattle.gate.specs.Passed.{pass-at}
 
-pub stop : (b : Bool) (why : Refusal) (g : Gate) → b ≡ true → No why ≡ refusing b why g
+pub stop : (b : Bool) (why : Refusal) (g : Gate) → b ≡ true → Err why ≡ refusing b why g
 unfolding refusing
 stop b why g e = rw e
 
@@ -41,11 +40,11 @@ unfolding opening_at opening_of
 opened-cell t i = get_d_part t (opening_base i) opening_length 0 (omega arith) ∙ ap (λ (k : ℕ). get_or t k 0) (add-zero (opening_base i))
 
 module _ (cells : ℕ) (t : List ℕ) (u e : ℕ) (g : Gate) (eg : g ≡ pass_of cells t u e) where
-  pub reach-no : (why : Refusal) → g ≡ No why → No why ≡ reach_of cells t u e
+  pub reach-no : (why : Refusal) → g ≡ Err why → Err why ≡ reach_of cells t u e
   unfolding reach_of
   reach-no why at = sym (ap (opened t) (sym eg ∙ at))
 
-  module _ (i : ℕ) (at : g ≡ At i) where
+  module _ (i : ℕ) (at : g ≡ Ok i) where
     pub opened-within : opening_base i < length t
     opened-within =
         let p = pass-at cells t u e i (sym eg ∙ at) in
@@ -64,14 +63,12 @@ module _ (cells : ℕ) (t : List ℕ) (u e : ℕ) (g : Gate) (eg : g ≡ pass_of
     pub opened-scaled : Fits w64 ((opening_base i) * 4)
     opened-scaled = record { fits = omega (arith, small) }
 
-    reach-is : opened t (At i) ≡ reach_of cells t u e
+    reach-is : opened t (Ok i) ≡ reach_of cells t u e
     unfolding reach_of
     reach-is = sym (ap (opened t) (sym eg ∙ at))
 
-    pub reach-closed : (get_or t (opening_base i) 0 ≡ 1 → ⊥) → No Entry ≡ reach_of cells t u e
-    reach-closed d = stop (not (is_open (opening_at t i))) Entry (At i) (ap not (ne_eqb (opening_at t i).opened 1 (λ q. d (sym (opened-cell t i) ∙ q)))) ∙ reach-is
+    pub reach-closed : (get_or t (opening_base i) 0 ≡ 1 → ⊥) → Err Entry ≡ reach_of cells t u e
+    reach-closed d = stop (not (is_open (opening_at t i))) Entry (Ok i) (ap not (ne_eqb (opening_at t i).opened 1 (λ q. d (sym (opened-cell t i) ∙ q)))) ∙ reach-is
 
-    pub reach-open : get_or t (opening_base i) 0 ≡ 1 → At i ≡ reach_of cells t u e
-    reach-open q = go_on (not (is_open (opening_at t i))) Entry (At i) (At i) (ap not (eq-eqb (opening_at t i).opened 1 (opened-cell t i ∙ q))) refl ∙ reach-is
-
-pub ruleset reaches = (reach-no, opened-within, opened-mul, opened-add, opened-scaled, reach-closed, reach-open)
+    pub reach-open : get_or t (opening_base i) 0 ≡ 1 → Ok i ≡ reach_of cells t u e
+    reach-open q = go_on (not (is_open (opening_at t i))) Entry (Ok i) (Ok i) (ap not (eq-eqb (opening_at t i).opened 1 (opened-cell t i ∙ q))) refl ∙ reach-is

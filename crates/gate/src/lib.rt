@@ -7,43 +7,31 @@ ghost use Rattle.gate.specs.Gates.{pass_of, reach_of};
 use answers::Refusal;
 use placing::{GREATEST_ENTRY, GREATEST_USER, OPENING_LENGTH, OPENINGS_START, ROW_ENTRIES};
 
-// The entry that a call names, of 32, or the refusal.
-#[derive(Clone, Copy)]
-pub enum Gate {
-    No(Refusal),
-    At(usize),
-}
-
-// The entry by its number, whether it is open or not; the store has so many cells.
-pub fn pass(cells: usize, tables: &[u32], user: u32, entry: u32) -> Gate
+// The entry by its number of 32, whether it is open or not; the store has so many cells.
+pub fn pass(cells: usize, tables: &[u32], user: u32, entry: u32) -> Result<usize, Refusal>
     ensures { result ≡ pass_of cells tables.now user entry }
 {
     if !sound::sound(tables, cells) {
-        return Gate::No(Refusal::Tables);
+        return Err(Refusal::Tables);
     }
     if GREATEST_USER < user {
-        return Gate::No(Refusal::User);
+        return Err(Refusal::User);
     }
     if GREATEST_ENTRY < entry {
-        return Gate::No(Refusal::Entry);
+        return Err(Refusal::Entry);
     }
     let of_all = ROW_ENTRIES * user + entry;
-    Gate::At(of_all as usize)
+    Ok(of_all as usize)
 }
 
 // An open entry: "entry above 3, or not open where it must be" is 2.
-pub fn reach(cells: usize, tables: &[u32], user: u32, entry: u32) -> Gate
+pub fn reach(cells: usize, tables: &[u32], user: u32, entry: u32) -> Result<usize, Refusal>
     ensures { result ≡ reach_of cells tables.now user entry }
 {
-    let passed = pass(cells, tables, user, entry);
-    match passed {
-        Gate::No(why) => Gate::No(why),
-        Gate::At(at) => {
-            let opened = OPENINGS_START + OPENING_LENGTH * at;
-            if tables[opened] != 1 {
-                return Gate::No(Refusal::Entry);
-            }
-            Gate::At(at)
-        }
+    let at = pass(cells, tables, user, entry)?;
+    let opened = OPENINGS_START + OPENING_LENGTH * at;
+    if tables[opened] != 1 {
+        return Err(Refusal::Entry);
     }
+    Ok(at)
 }

@@ -1,17 +1,14 @@
 -- A use of an entry at the gate and behind it: a user u names the entry e; g is what the gate says, and i the entry of 32. Assumes nothing.
-use Rattle.std.specs.Prelude.{ℕ, ◌≡◌, refl, List, length}
+use Rattle.std.specs.Prelude.{ℕ, ◌≡◌, refl, List, length, Err, Ok}
 use Rattle.std.proofs.Common.{sym, ap, ◌∙◌}
 use Rattle.combine.specs.Outcome.{Outcome}
 use Rattle.answers.specs.declared.Refusal.{Refusal}
-use Rattle.answers.specs.declared.Answer.TheVariants.{Refused}
 use Rattle.rules.specs.Calls.{Act, uses}
 use Rattle.tables.specs.Layout.{opening_at}
 use Rattle.cells.specs.Outcomes.{Lent, outcome, request_out}
 use Rattle.cells.specs.Laws.Entered.{request-open}
 use Rattle.cells.specs.Laws.Uses.{verdict_on}
-use Rattle.gate.specs.declared.Gate.{Gate}
-use Rattle.gate.specs.declared.Gate.TheVariants.{No, At}
-use Rattle.gate.specs.Gates.{reach_of}
+use Rattle.gate.specs.Gates.{Gate, reach_of}
 use Rattle.gate.specs.Passed.{Reached, reaches, reaches-not}
 use Rattle.gate_laws.specs.Behind.{reached-open}
 use Rattle.gate_laws.specs.Standing.{Standing, reached-standing}
@@ -27,10 +24,10 @@ request-used s t u e i g a =
 -- ---- of a gate that the code has in hand
 
 module _ (s t : List ℕ) (u e : ℕ) (g : Gate) (eg : g ≡ reach_of (length s) t u e) where
-  pub use-refused : (a : Act) (why : Refusal) → g ≡ No why → outcome (Refused why) s t ≡ request_out (uses a) s t u e
+  pub use-refused : (a : Act) (why : Refusal) → g ≡ Err why → outcome (Err why) s t ≡ request_out (uses a) s t u e
   use-refused a why at = reaches-not s t u e g eg (uses a) refl why at
 
-  module _ (i : ℕ) (at : g ≡ At i) where
+  module _ (i : ℕ) (at : g ≡ Ok i) where
     pub use-standing : Standing (length s) t i
     use-standing = reached-standing (reaches s t u e g eg i at)
 

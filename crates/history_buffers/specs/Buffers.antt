@@ -76,4 +76,3 @@ test_of word.Sum cells l k ns = testing (answering (sum_line cells l k ns) l) ce
 test_of word.Peek cells l k ns = testing (answering (peek_line cells ns) l) cells
 test_of word.Poke cells l k ns = testing (answering (poke_line cells ns).reply l) (poke_line cells ns).cells
 test_of word.Lend cells l k ns = testing (lend_line l k (length cells) ns) cells
-test_of word.Unknown cells l k ns = testing (answering Bad l) cells

@@ -1,44 +1,32 @@
 -- What the code uses of these meanings. Assumes nothing.
-use Rattle.std.specs.Prelude.{ℕ, suc, ◌+◌, ◌-◌, ◌*◌, ◌%◌, ◌≤◌, ◌<◌, ◌≡◌, Bool, true, false, List, length, get_or, set, take, drop}
+use Rattle.std.specs.Prelude.{ℕ, ◌+◌, ◌-◌, ◌*◌, ◌%◌, ◌≤◌, ◌<◌, ◌≡◌, min, Bool, true, false, cond, ltb, List, [], ◌∷◌, length, get_or, set, take, Some, None}
 use Rattle.std.proofs.Math.Path.{refl, sym, ap}
-use Rattle.std.proofs.Common.{◌∙◌, drop_of_length-le, drop-cons}
+use Rattle.std.proofs.Common.{◌∙◌, arith, fold}
 use Rattle.std.proofs.Math.Nat.{sub-zero}
-use Rattle.std.proofs.Math.Numerals.{add-one}
-use borrow.Author.Tests.{le-leb, lt-leb, lt-ltb, le-ltb}
-use Rattle.history_words.specs.declared.Number.{Number}
-use Rattle.history_words.specs.declared.Number.TheVariants as number
+use borrow.Author.Tests.{le-leb, lt-leb, lt-ltb, le-ltb, ltb-true, ltb-false}
 use Rattle.history_words.specs.declared.Numbers.{Numbers}
 use Rattle.history_lines.specs.declared.OfBuffer.{OfBuffer}
 use Rattle.history_calls.specs.declared.Reply.{Reply}
 use Rattle.history_calls.specs.declared.Reply.TheVariants.{Lent, Cell, Sum, Bad}
 use Rattle.history_buffers.specs.declared.Answered.{Answered}
-use Rattle.history_buffers.specs.declared.Pair.{Pair}
-use Rattle.history_buffers.specs.declared.Pair.TheVariants as pair
 use Rattle.history_buffers.specs.Numbers.{no_number, one_number, two_numbers, on_one, on_two}
 use Rattle.history_buffers.specs.Buffers.{answering, last_buffer, within_of, lent_of, lended, lend_line, sum_of, sum_line, peeked, peek_line, Poked, poking, poked, poke_line, Tested, testing, test_of}
 
--- ---- numbers that are known
-
-pub no-number-known : (m k : Numbers) (b : Bool) → m ≡ k → b ≡ no_number k → b ≡ no_number m
-no-number-known m k b q r = r ∙ sym (ap no_number q)
-
-pub one-number-known : (m k : Numbers) (x : Number) → m ≡ k → x ≡ one_number k → x ≡ one_number m
-one-number-known m k x q r = r ∙ sym (ap one_number q)
-
-pub two-numbers-known : (m k : Numbers) (x : Pair) → m ≡ k → x ≡ two_numbers k → x ≡ two_numbers m
-two-numbers-known m k x q r = r ∙ sym (ap two_numbers q)
-
-pub ruleset counted = (no-number-known, one-number-known, two-numbers-known)
-
 -- ---- what is lent
 
-pub within-most : (n most : ℕ) → most < n → most ≡ within_of n most
+pub min-within : (n most : ℕ) → min n most ≡ within_of n most
 unfolding within_of
-within-most n most l = simp (lt-ltb most n l)
-
-pub within_all : (n most : ℕ) → n ≤ most → n ≡ within_of n most
-unfolding within_of
-within_all n most l = simp (le-ltb most n l)
+min-within n most = go (ltb most n) refl
+  where
+    go : (b : Bool) → ltb most n ≡ b → min n most ≡ cond (ltb most n) most n
+    go true e =
+        let more = ltb-true most n e in
+        let least : min n most ≡ most = omega (arith, more) in
+        least ∙ sym (simp e)
+    go false e =
+        let fewer = ltb-false most n e in
+        let least : min n most ≡ n = omega (arith, fewer) in
+        least ∙ sym (simp e)
 
 module _ (l : List ℕ) (k most : ℕ) where
   pub lent_none : last_buffer < k → 0 ≡ lent_of l k most
@@ -61,27 +49,23 @@ module _ (l : List ℕ) (k most : ℕ) where
   unfolding lended
   lend-there n h g = simp (le-ltb most n h, le-ltb last_buffer k g)
 
-  module _ (ns : Numbers) (x : Number) (e : x ≡ one_number ns) where
-    pub lend-bad : x ≡ number.Bad → answering Bad l ≡ lend_line l k most ns
+  module _ (ns : Numbers) (a : Answered) where
+    pub lend-bad : None ≡ one_number ns → a ≡ answering Bad l → a ≡ lend_line l k most ns
     unfolding lend_line
-    lend-bad q = ap (on_one (lended l k most) (answering Bad l)) (sym q ∙ e)
+    lend-bad e p = p ∙ ap (on_one (lended l k most) (answering Bad l)) e
 
-    pub lend-one : (n : ℕ) (a : Answered) → x ≡ number.Is n → a ≡ lended l k most n → a ≡ lend_line l k most ns
+    pub lend-one : (n : ℕ) → Some n ≡ one_number ns → a ≡ lended l k most n → a ≡ lend_line l k most ns
     unfolding lend_line
-    lend-one n a q p = p ∙ ap (on_one (lended l k most) (answering Bad l)) (sym q ∙ e)
+    lend-one n e p = p ∙ ap (on_one (lended l k most) (answering Bad l)) e
 
 pub ruleset lending = (lend-bad, lend-one)
 
--- ---- the sum from place i on, with the cells before summed to h
+-- ---- the sum, as the fold that the code makes
 
-module _ (cells : List ℕ) (h i : ℕ) (whole : sum_of h (drop i cells) ≡ sum_of 0 cells) where
-  pub sum-on : (r : ℕ) → r ≡ (h * 31 + get_or cells i 0) % 4294967291 → i < length cells → sum_of r (drop (i + 1) cells) ≡ sum_of 0 cells
-  unfolding sum_of
-  sum-on r e l = rw add-one (ap (λ n. sum_of n (drop (suc i) cells)) e ∙ sym (ap (sum_of h) (drop-cons cells i 0 l)) ∙ whole)
-
-  pub sum-end : length cells ≤ i → h ≡ sum_of 0 cells
-  unfolding sum_of
-  sum-end l = sym (ap (sum_of h) (drop_of_length-le cells l)) ∙ whole
+pub summed_by : (cells : List ℕ) (h : ℕ) → fold (λ h cell. (h * 31 + cell) % 4294967291) h cells ≡ sum_of h cells
+unfolding sum_of
+summed_by [] h = refl
+summed_by (c ∷ cells) h = summed_by cells ((h * 31 + c) % 4294967291)
 
 module _ (cells l : List ℕ) (k : ℕ) (ns : Numbers) (b : Bool) (e : b ≡ no_number ns) where
   pub sum-bad : b ≡ false → Bad ≡ sum_line cells l k ns
@@ -111,23 +95,21 @@ unfolding poked
 poke-there cells i v l = simp (lt-leb (length cells) i l)
 
 module _ (cells : List ℕ) (ns : Numbers) where
-  module _ (x : Number) (e : x ≡ one_number ns) where
-    pub peek-bad : x ≡ number.Bad → Bad ≡ peek_line cells ns
-    unfolding peek_line
-    peek-bad q = ap (on_one (peeked cells) Bad) (sym q ∙ e)
+  pub peek-bad : None ≡ one_number ns → Bad ≡ peek_line cells ns
+  unfolding peek_line
+  peek-bad e = ap (on_one (peeked cells) Bad) e
 
-    pub peek-one : (i : ℕ) (r : Reply) → x ≡ number.Is i → r ≡ peeked cells i → r ≡ peek_line cells ns
-    unfolding peek_line
-    peek-one i r q p = p ∙ ap (on_one (peeked cells) Bad) (sym q ∙ e)
+  pub peek-one : (i : ℕ) (r : Reply) → Some i ≡ one_number ns → r ≡ peeked cells i → r ≡ peek_line cells ns
+  unfolding peek_line
+  peek-one i r e p = p ∙ ap (on_one (peeked cells) Bad) e
 
-  module _ (x : Pair) (e : x ≡ two_numbers ns) where
-    pub poke-bad : x ≡ pair.Bad → poking Bad cells ≡ poke_line cells ns
-    unfolding poke_line
-    poke-bad q = ap (on_two (poked cells) (poking Bad cells)) (sym q ∙ e)
+  pub poke-bad : None ≡ two_numbers ns → poking Bad cells ≡ poke_line cells ns
+  unfolding poke_line
+  poke-bad e = ap (on_two (poked cells) (poking Bad cells)) e
 
-    pub poke-two : (i v : ℕ) (y : Poked) → x ≡ pair.Is i v → y ≡ poked cells i v → y ≡ poke_line cells ns
-    unfolding poke_line
-    poke-two i v y q p = p ∙ ap (on_two (poked cells) (poking Bad cells)) (sym q ∙ e)
+  pub poke-two : (i v : ℕ) (y : Poked) → Some (i, v) ≡ two_numbers ns → y ≡ poked cells i v → y ≡ poke_line cells ns
+  unfolding poke_line
+  poke-two i v y e p = p ∙ ap (on_two (poked cells) (poking Bad cells)) e
 
 pub ruleset lines = (sum-bad, sum-lent, peek-bad, peek-one, poke-bad, poke-two)
 

@@ -2,3 +2,4 @@
 pub mod Numbers
 pub mod Buffers
 pub mod Laws
+pub mod Steps

@@ -6,21 +6,19 @@ ghost use Rattle.history_buffers.specs.Buffers.{within_of, lent_of, lended, lend
 
 use history_calls::Reply;
 use history_lines::OfBuffer;
-use history_words::{Number, Numbers};
+use history_words::Numbers;
 
 pub mod wanted; // as many numbers as a line wants
 
 // Store, tables, image 0 to 3, list 0 and 1, in this order.
 pub const BUFFERS: usize = 8;
 
-const LAST_BUFFER: usize = BUFFERS - 1;
+// The numbers of the first two.
+pub const STORE: usize = 0;
 
-// Two numbers, and no more.
-#[derive(Clone, Copy)]
-pub enum Pair {
-    Is(u32, u32),
-    Bad,
-}
+pub const TABLES: usize = 1;
+
+const LAST_BUFFER: usize = BUFFERS - 1;
 
 // What a line is answered, and how many cells are lent from now on of each buffer.
 #[derive(Clone, Copy)]
@@ -35,10 +33,7 @@ pub struct Answered {
 fn within(lent: u32, most: usize) -> usize
     ensures { (result ≡ within_of lent most) × (result ≤ most) }
 {
-    if most < lent as usize {
-        return most;
-    }
-    lent as usize
+    (lent as usize).min(most)
 }
 
 // How many cells are lent of buffer k, which has so many.
@@ -78,35 +73,33 @@ fn lend(lengths: [u32; BUFFERS], k: usize, most: usize, n: u32) -> Answered
 fn lend_line(lengths: [u32; BUFFERS], k: usize, most: usize, numbers: Numbers) -> Answered
     ensures { result ≡ lend_line lengths k most numbers }
 {
-    let found = wanted::one_number(numbers);
-    match found {
-        Number::Is(n) => lend(lengths, k, most, n),
-        Number::Bad => Answered {
+    let Some(n) = wanted::one_number(numbers) else {
+        return Answered {
             reply: Reply::Bad,
             lengths,
-        },
-    }
+        };
+    };
+    lend(lengths, k, most, n)
 }
 
 // ---- cells
 
+// Of a sum's step.
+const FACTOR: u64 = 31;
+
+const MODULUS: u64 = 4294967291;
+
 fn summed(h: u32, cell: u32) -> u32
     ensures { result ≡ (h * 31 + cell) % 4294967291 }
 {
-    ((h as u64 * 31 + cell as u64) % 4294967291) as u32
+    ((u64::from(h) * FACTOR + u64::from(cell)) % MODULUS) as u32
 }
 
 // "a sum over the lent cells: h starts at 0, for each cell c, h = (h * 31 + c) mod 4294967291"
 fn sum(cells: &[u32]) -> u32
     ensures { result ≡ sum_of 0 cells.now }
 {
-    let mut h: u32 = 0;
-    let mut i = 0;
-    while i < cells.len() {
-        h = summed(h, cells[i]);
-        i += 1;
-    }
-    h
+    cells.iter().fold(0, |h, cell| summed(h, *cell))
 }
 
 fn sum_line(cells: &[u32], lengths: [u32; BUFFERS], k: usize, numbers: Numbers) -> Reply
@@ -133,11 +126,10 @@ fn peek(cells: &[u32], at: u32) -> Reply
 fn peek_line(cells: &[u32], numbers: Numbers) -> Reply
     ensures { result ≡ peek_line cells.now numbers }
 {
-    let found = wanted::one_number(numbers);
-    match found {
-        Number::Is(at) => peek(cells, at),
-        Number::Bad => Reply::Bad,
-    }
+    let Some(at) = wanted::one_number(numbers) else {
+        return Reply::Bad;
+    };
+    peek(cells, at)
 }
 
 // "writes V there"
@@ -155,15 +147,15 @@ fn poke(cells: &mut [u32], at: u32, value: u32) -> Reply
 fn poke_line(cells: &mut [u32], numbers: Numbers) -> Reply
     ensures { poking result cells.new ≡ poke_line cells.old numbers }
 {
-    let found = wanted::two_numbers(numbers);
-    match found {
-        Pair::Is(at, value) => poke(cells, at, value),
-        Pair::Bad => Reply::Bad,
-    }
+    let Some((at, value)) = wanted::two_numbers(numbers) else {
+        return Reply::Bad;
+    };
+    poke(cells, at, value)
 }
 
 // ---- any of them, on buffer k
 
+#[tactic(auto, using(crate::specs::Laws::tested))]
 pub fn test(
     cells: &mut [u32],
     lengths: [u32; BUFFERS],
@@ -187,9 +179,5 @@ pub fn test(
             lengths,
         },
         OfBuffer::Lend => lend_line(lengths, k, cells.len(), numbers),
-        OfBuffer::Unknown => Answered {
-            reply: Reply::Bad,
-            lengths,
-        },
     }
 }

@@ -1,12 +1,9 @@
 -- What is answered and left, where a line may ask for a call. Assumes nothing.
-use Rattle.std.specs.Prelude.{ℕ, ◌≡◌, Bool, true, false, cond, List, ℤ}
+use Rattle.std.specs.Prelude.{ℕ, ◌≡◌, Bool, true, false, cond, List, ℤ, Option, Some, None}
 use Rattle.std.proofs.Math.Path.{refl, ap}
 use Rattle.std.proofs.Common.{◌∙◌}
-use Rattle.std.proofs.Math.Option.{Option, none, some}
 use Rattle.numbers.specs.Numbers.{signed_of}
-use Rattle.answers.specs.declared.Answer.{Answer}
-use Rattle.answers.specs.declared.SignedAnswer.{SignedAnswer}
-use Rattle.answers.specs.Said.{said, said_signed}
+use Rattle.answers.specs.Said.{Answer, SignedAnswer, said, said_signed}
 use Rattle.combine.specs.Verdict.{Verdict, Said, done, refused, on_done}
 use Rattle.combine.specs.Outcome.{Outcome, outcome_of}
 use Rattle.rules.specs.Calls.{Act, rename, reset, new_pointer, delete_pointer, write, next, prev, write_signed, next_signed, prev_signed, ask_species, ask_claim, ask_permit, ask_symbol, ask_begin, ask_end, ask_value}
@@ -71,23 +68,23 @@ told_by c o = told (reply_to c o.answer) o.after
 
 -- "A line that is none of those below .. changes nothing"
 unfoldable pub told_of : Option Call → List ℕ → List ℕ → Told
-told_of none s t = told Bad (lent s t)
-told_of (some c) s t = told_by c (call_out c s t)
+told_of None s t = told Bad (lent s t)
+told_of (Some c) s t = told_by c (call_out c s t)
 
 module _ (s t : List ℕ) where
-  pub tell-call : (a : Answer) (r : Reply) (x : Lent) (c : Call) → r ≡ reply_to c (said a) → outcome_of (said a) x ≡ call_out c s t → told r x ≡ told_of (some c) s t
+  pub tell-call : (a : Answer) (r : Reply) (x : Lent) (c : Call) → r ≡ reply_to c (said a) → outcome_of (said a) x ≡ call_out c s t → told r x ≡ told_of (Some c) s t
   unfolding told_of told_by
   tell-call a r x c p q = ap (λ y. told y x) p ∙ ap (told_by c) q
 
   pub tell-signed : (a : SignedAnswer) (r : Reply) (y z : List ℕ) (c : Call) → gives_signed c ≡ true → r ≡ reply_signed (said_signed a)
-      → signed_outcome a y z ≡ read_signed (call_out c s t) → told r (lent y z) ≡ told_of (some c) s t
+      → signed_outcome a y z ≡ read_signed (call_out c s t) → told r (lent y z) ≡ told_of (Some c) s t
   unfolding told_of told_by signed_outcome read_signed
   tell-signed a r y z c g p q = simp g (ap (λ w. told w (lent y z)) p ∙ ap (λ (o : SignedOutcome). told (reply_signed o.answer) o.after) q)
 
   -- "the number of free segments"
-  pub tell-count : (a : Answer) (r : Reply) (x : Lent) (u : ℕ) → r ≡ reply_of (said a) → outcome_of (said a) x ≡ free_out s t u → told r x ≡ told_of (some (asks (count u))) s t
+  pub tell-count : (a : Answer) (r : Reply) (x : Lent) (u : ℕ) → r ≡ reply_of (said a) → outcome_of (said a) x ≡ free_out s t u → told r x ≡ told_of (Some (asks (count u))) s t
   tell-count a r x u p q = tell-call a r x (asks (count u)) p (q ∙ asked-count s t u)
 
-  pub tell_none : told Bad (lent s t) ≡ told_of none s t
+  pub tell_none : told Bad (lent s t) ≡ told_of None s t
   unfolding told_of
   tell_none = refl

@@ -5,7 +5,7 @@ ghost use Rattle.history_calls.specs.Calls.{name_call, named_call};
 ghost use Rattle.history_calls.specs.Told.{told, told_of};
 
 use crate::{Reply, replied};
-use history_lines::{Named, OfName};
+use history_lines::OfName;
 
 fn on_name(
     store: &[u32],
@@ -21,7 +21,6 @@ fn on_name(
         OfName::Work => replied(call_open::open_work(store, tables, user, entry, name)),
         OfName::Read => replied(call_open::open_read(store, tables, user, entry, name)),
         OfName::Rename => replied(call_rename::rename(store, tables, user, entry, name)),
-        OfName::Unknown => Reply::Bad,
     }
 }
 
@@ -30,15 +29,12 @@ fn on_name(
 pub fn named(store: &[u32], tables: &mut [u32], word: OfName, line: &[u8], at: usize) -> Reply
     ensures { told result (lent store.now tables.new) ≡ told_of (named_call word line.now at) store.now tables.old }
 {
-    let found = history_lines::named_at(line, at);
-    match found {
-        Named::Is(user, entry, to) => {
-            if line.len() <= to {
-                return on_name(store, tables, word, user, entry, &line[0..0]);
-            }
-            let from = to + 1;
-            on_name(store, tables, word, user, entry, &line[from..])
-        }
-        Named::Bad => Reply::Bad,
+    let Some((user, entry, to)) = history_lines::named_at(line, at) else {
+        return Reply::Bad;
+    };
+    if line.len() <= to {
+        return on_name(store, tables, word, user, entry, b"");
     }
+    let from = to + 1;
+    on_name(store, tables, word, user, entry, &line[from..])
 }

@@ -9,12 +9,23 @@ ghost use Rattle.history_calls.specs.Told.{told, told_of, reply_of};
 
 use answers::Answer;
 use by_name::named;
-use history_lines::{OfName, OfThree, OfTwo};
+use history_lines::{OfThree, OfTwo};
 use history_words::Numbers;
 use signed::replied_signed;
 
 pub mod by_name; // lines with a name
 pub mod signed; // signed numbers, given and taken
+
+// The words that no user and entry follow, or four numbers, or a signed one: they stand in no table.
+const FRESH: &[u8] = b"fresh";
+
+const TIDY: &[u8] = b"tidy";
+
+const FREE: &[u8] = b"free";
+
+const WRITE: &[u8] = b"write";
+
+const WRITE_SIGNED: &[u8] = b"write_signed";
 
 // What a line is answered by: a call, a line for tests, a line that is neither.
 #[derive(Clone, Copy)]
@@ -37,8 +48,8 @@ pub fn replied(answer: Answer) -> Reply
     ensures { result ≡ reply_of (said answer) }
 {
     match answer {
-        Answer::Done(n) => Reply::Done(n),
-        Answer::Refused(why) => Reply::Refused(answers::number(why)),
+        Ok(n) => Reply::Done(n),
+        Err(why) => Reply::Refused(answers::number(why)),
     }
 }
 
@@ -55,7 +66,6 @@ fn on_two(store: &[u32], tables: &mut [u32], word: OfTwo, user: u32, entry: u32)
         OfTwo::Permit => replied(call_ask::permit(store, tables, user, entry)),
         OfTwo::Begin => replied(call_ask::begin(store, tables, user, entry)),
         OfTwo::End => replied(call_ask::end(store, tables, user, entry)),
-        OfTwo::Unknown => Reply::Bad,
     }
 }
 
@@ -85,7 +95,6 @@ fn on_three(
         OfThree::PrevSigned => replied_signed(call_next_prev::signed::prev_signed(
             store, tables, user, entry, number,
         )),
-        OfThree::Unknown => Reply::Bad,
     }
 }
 
@@ -93,10 +102,10 @@ fn on_three(
 fn alone(store: &mut [u32], tables: &mut [u32], word: &[u8]) -> Reply
     ensures { told result (lent store.new tables.new) ≡ told_of (alone_call word.now) store.old tables.old }
 {
-    if history_words::same(word, b"fresh") {
+    if word == FRESH {
         return replied(call_fresh::fresh(store, tables));
     }
-    if history_words::same(word, b"tidy") {
+    if word == TIDY {
         return replied(call_tidy::tidy(store, tables));
     }
     Reply::Bad
@@ -108,32 +117,21 @@ fn numbered(store: &mut [u32], tables: &mut [u32], word: &[u8], numbers: Numbers
 {
     match numbers {
         Numbers::Zero => alone(store, tables, word),
-        Numbers::One(user) => {
-            if history_words::same(word, b"free") {
-                return replied(call_count::free_segments(store, tables, user));
-            }
-            Reply::Bad
+        Numbers::One(user) if word == FREE => {
+            replied(call_count::free_segments(store, tables, user))
         }
-        Numbers::Two(user, entry) => {
-            on_two(store, tables, history_lines::of_two_word(word), user, entry)
+        Numbers::Two(user, entry) => match history_lines::of_two_word(word) {
+            Some(known) => on_two(store, tables, known, user, entry),
+            None => Reply::Bad,
+        },
+        Numbers::Three(user, entry, number) => match history_lines::of_three_word(word) {
+            Some(known) => on_three(store, tables, known, user, entry, number),
+            None => Reply::Bad,
+        },
+        Numbers::Four(user, entry, pointer, number) if word == WRITE => {
+            replied(call_write::write(store, tables, user, entry, pointer, number))
         }
-        Numbers::Three(user, entry, number) => {
-            on_three(
-                store,
-                tables,
-                history_lines::of_three_word(word),
-                user,
-                entry,
-                number,
-            )
-        }
-        Numbers::Four(user, entry, pointer, number) => {
-            if history_words::same(word, b"write") {
-                return replied(call_write::write(store, tables, user, entry, pointer, number));
-            }
-            Reply::Bad
-        }
-        Numbers::Bad => Reply::Bad,
+        _ => Reply::Bad,
     }
 }
 
@@ -142,12 +140,14 @@ fn numbers_line(store: &mut [u32], tables: &mut [u32], line: &[u8], at: usize) -
     requires { at ≤ length line.now }
     ensures { told result (lent store.new tables.new) ≡ told_of (numbers_call line.now at) store.old tables.old }
 {
-    if history_words::same(&line[0..at], b"write_signed") {
-        let asked = history_lines::signed::signed_write_at(line, at);
-        return signed::write_signed(store, tables, asked);
+    let word = &line[0..at];
+    if word == WRITE_SIGNED {
+        return signed::write_signed(store, tables, line, at);
     }
-    let numbers = history_words::numbers_at(line, at);
-    numbered(store, tables, &line[0..at], numbers)
+    match history_words::numbers_at(line, at) {
+        Some(numbers) => numbered(store, tables, word, numbers),
+        None => Reply::Bad,
+    }
 }
 
 // A line that asks for a call on store and tables alone; to any other it answers Bad and changes nothing.
@@ -155,11 +155,8 @@ pub fn perform(store: &mut [u32], tables: &mut [u32], line: &[u8]) -> Reply
     ensures { told result (lent store.new tables.new) ≡ told_of (call_in line.now) store.old tables.old }
 {
     let at = history_words::word_end(line, 0);
-    let naming = history_lines::of_name_word(&line[0..at]);
-    match naming {
-        OfName::Work => named(store, tables, OfName::Work, line, at),
-        OfName::Read => named(store, tables, OfName::Read, line, at),
-        OfName::Rename => named(store, tables, OfName::Rename, line, at),
-        OfName::Unknown => numbers_line(store, tables, line, at),
+    match history_lines::of_name_word(&line[0..at]) {
+        Some(word) => named(store, tables, word, line, at),
+        None => numbers_line(store, tables, line, at),
     }
 }

@@ -2,29 +2,36 @@
 ghost use Rattle.std.specs.Prelude.{◌≡◌};
 ghost use Rattle.answers.specs.Said.{said_signed};
 ghost use Rattle.cells.specs.Outcomes.{lent};
+ghost use Rattle.history_lines.specs.Signing.{signed_write_at};
 ghost use Rattle.history_calls.specs.Calls.{signed_call};
 ghost use Rattle.history_calls.specs.Told.{told, told_of, reply_signed};
 
 use crate::{Reply, replied};
 use answers::SignedAnswer;
-use history_lines::signed::SignedWrite;
 
+// Beside `replied`, for one function over both would take the reply to a done one as a parameter, and be no shorter.
 pub fn replied_signed(answer: SignedAnswer) -> Reply
     ensures { result ≡ reply_signed (said_signed answer) }
 {
     match answer {
-        SignedAnswer::Done(number) => Reply::DoneSigned(number),
-        SignedAnswer::Refused(why) => Reply::Refused(answers::number(why)),
+        Ok(number) => Reply::DoneSigned(number),
+        Err(why) => Reply::Refused(answers::number(why)),
     }
 }
 
-pub fn write_signed(store: &mut [u32], tables: &mut [u32], asked: SignedWrite) -> Reply
-    ensures { told result (lent store.new tables.new) ≡ told_of (signed_call asked) store.old tables.old }
+// A line whose word is that of a signed write.
+pub fn write_signed(store: &mut [u32], tables: &mut [u32], line: &[u8], at: usize) -> Reply
+    ensures { told result (lent store.new tables.new) ≡ told_of (signed_call (signed_write_at line.now at)) store.old tables.old }
 {
-    match asked {
-        SignedWrite::Is(user, entry, pointer, number) => replied(call_write::write_signed(
-            store, tables, user, entry, pointer, number,
-        )),
-        SignedWrite::Bad => Reply::Bad,
-    }
+    let Some(asked) = history_lines::signed::signed_write_at(line, at) else {
+        return Reply::Bad;
+    };
+    replied(call_write::write_signed(
+        store,
+        tables,
+        asked.user,
+        asked.entry,
+        asked.pointer,
+        asked.number,
+    ))
 }

@@ -1,6 +1,6 @@
 -- Every line of a history: s and t are the cells of the buffers store and tables, i those of images and lists, l has the numbers of cells lent of
 -- each. Assumes nothing.
-use Rattle.std.specs.Prelude.{ℕ, ◌+◌, true, false, cond, List, leb, ltb, eqb, length, get_or, take}
+use Rattle.std.specs.Prelude.{ℕ, ◌+◌, true, false, cond, List, leb, ltb, eqb, length, get_or, take, Option, Some, None}
 use Rattle.cells.specs.Outcomes.{lent}
 use Rattle.history_calls.specs.declared.Reply.TheVariants.{Bad, Nothing}
 use Rattle.history_calls.specs.Calls.{call_in}
@@ -8,7 +8,6 @@ use Rattle.history_calls.specs.Told.{Told, told, told_of}
 use Rattle.history_words.specs.declared.Numbers.{Numbers}
 use Rattle.history_words.specs.Words.{word_end, part, numbers_at}
 use Rattle.history_lines.specs.declared.OfBuffer.{OfBuffer}
-use Rattle.history_lines.specs.declared.OfBuffer.TheVariants as word
 use Rattle.history_lines.specs.declared.OfLent.{OfLent}
 use Rattle.history_lines.specs.declared.OfLent.TheVariants as lending
 use Rattle.history_lines.specs.declared.Buffer.{Buffer}
@@ -50,20 +49,29 @@ lent_out l x = out (answering x.reply l) x.store x.tables x.others
 abbrev pub moved_out : List ℕ → List ℕ → List ℕ → Moving → Out
 moved_out l s t x = out (answering x.reply l) s t x.others
 
--- a line that asks for a call, by its first word, which ends at a place
-abbrev pub call_by : OfLent → List ℕ → List ℕ → ℕ → List ℕ → List ℕ → List ℕ → Out
-call_by lending.Save l line at s t i = lent_out l (image_line l (one_number (numbers_at line at)) true s t i)
-call_by lending.Load l line at s t i = lent_out l (image_line l (one_number (numbers_at line at)) false s t i)
-call_by lending.Writes l line at s t i = lent_out l (run_line l (numbers_at line at) true s t i)
-call_by lending.Nexts l line at s t i = lent_out l (run_line l (numbers_at line at) false s t i)
-call_by lending.Up l line at s t i = moved_out l s t (move_line l (numbers_at line at) true i)
-call_by lending.Down l line at s t i = moved_out l s t (move_line l (numbers_at line at) false i)
-call_by lending.Unknown l line at s t i =
+-- a call that is lent images or lists, and the numbers of its line
+abbrev pub call_by : OfLent → List ℕ → Numbers → List ℕ → List ℕ → List ℕ → Out
+call_by lending.Save l ns s t i = lent_out l (image_line l (one_number ns) true s t i)
+call_by lending.Load l ns s t i = lent_out l (image_line l (one_number ns) false s t i)
+call_by lending.Writes l ns s t i = lent_out l (run_line l ns true s t i)
+call_by lending.Nexts l ns s t i = lent_out l (run_line l ns false s t i)
+call_by lending.Up l ns s t i = moved_out l s t (move_line l ns true i)
+call_by lending.Down l ns s t i = moved_out l s t (move_line l ns false i)
+
+-- "a number too many, too few, too large or malformed" is a bad line
+abbrev pub call_with : OfLent → List ℕ → Option Numbers → List ℕ → List ℕ → List ℕ → Out
+call_with w l (Some ns) s t i = call_by w l ns s t i
+call_with w l None s t i = out (answering Bad l) s t i
+
+-- a line that asks for a call, by its first word, which ends at a place: one of those, or any other
+abbrev pub call_from : Option OfLent → List ℕ → List ℕ → ℕ → List ℕ → List ℕ → List ℕ → Out
+call_from (Some w) l line at s t i = call_with w l (numbers_at line at) s t i
+call_from None l line at s t i =
     let called = lent_call l line s t in
     out (answering called.reply l) called.cells.store called.cells.tables i
 
 unfoldable pub call_line : List ℕ → List ℕ → ℕ → List ℕ → List ℕ → List ℕ → Out
-call_line l line at s t i = call_by (found lent_words lending.Unknown (part 0 at line)) l line at s t i
+call_line l line at s t i = call_from (found lent_words (part 0 at line)) l line at s t i
 
 -- ---- "Lines that are no calls, for tests"
 
@@ -92,26 +100,39 @@ on_buffer w (buffer.Image k) ns l s t i =
 on_buffer w (buffer.List k) ns l s t i =
     let x = list_test w k ns l i in
     out x.answered s t x.cells
-on_buffer w buffer.Unknown ns l s t i = out (answering Bad l) s t i
+
+-- the buffer that is named after the space at a place, and the numbers behind it; a buffer that is not there, or a number that is none, is a bad line
+abbrev pub beside : Buffer → Option Numbers → Option (Buffer × Numbers)
+beside b (Some ns) = Some (b, ns)
+beside b None = None
+
+abbrev pub named : Option Buffer → Option Numbers → Option (Buffer × Numbers)
+named (Some b) ns = beside b ns
+named None ns = None
+
+unfoldable pub buffer_at : List ℕ → ℕ → Option (Buffer × Numbers)
+buffer_at line at =
+    let to = word_end line (at + 1) in
+    cond (leb (length line) at) None (named (found buffer_names (part (at + 1) to line)) (numbers_at line to))
+
+abbrev pub test_with : OfBuffer → Option (Buffer × Numbers) → List ℕ → List ℕ → List ℕ → List ℕ → Out
+test_with w (Some x) l s t i = on_buffer w x.0 x.1 l s t i
+test_with w None l s t i = out (answering Bad l) s t i
 
 unfoldable pub test_line : OfBuffer → List ℕ → ℕ → List ℕ → List ℕ → List ℕ → List ℕ → Out
-test_line w line at l s t i =
-    let to = word_end line (at + 1) in
-    cond (leb (length line) at) (out (answering Bad l) s t i) (on_buffer w (found buffer_names buffer.Unknown (part (at + 1) to line)) (numbers_at line to) l s t i)
+test_line w line at l s t i = test_with w (buffer_at line at) l s t i
 
 -- ---- any line
 
-abbrev pub line_from : OfBuffer → List ℕ → ℕ → List ℕ → List ℕ → List ℕ → List ℕ → Out
-line_from word.Sum line at l s t i = test_line word.Sum line at l s t i
-line_from word.Lend line at l s t i = test_line word.Lend line at l s t i
-line_from word.Peek line at l s t i = test_line word.Peek line at l s t i
-line_from word.Poke line at l s t i = test_line word.Poke line at l s t i
-line_from word.Unknown line at l s t i = call_line l line at s t i
+-- by its first word, which ends at a place: one for tests, or any other
+abbrev pub line_from : Option OfBuffer → List ℕ → ℕ → List ℕ → List ℕ → List ℕ → List ℕ → Out
+line_from (Some w) line at l s t i = test_line w line at l s t i
+line_from None line at l s t i = call_line l line at s t i
 
 unfoldable pub spoken_out : List ℕ → List ℕ → List ℕ → List ℕ → List ℕ → Out
 spoken_out line l s t i =
     let at = word_end line 0 in
-    line_from (found buffer_words word.Unknown (part 0 at line)) line at l s t i
+    line_from (found buffer_words (part 0 at line)) line at l s t i
 
 -- "An empty line and one that begins with # are passed over and answered by nothing."
 unfoldable pub line_out : List ℕ → List ℕ → List ℕ → List ℕ → List ℕ → Out

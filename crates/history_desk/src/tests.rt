@@ -2,9 +2,9 @@
 ghost use Rattle.std.specs.Prelude.{◌≡◌, ◌+◌, ◌≤◌};
 ghost use Rattle.history_buffers.specs.Buffers.{testing};
 ghost use Rattle.history_lent.specs.Rooms.{others_length};
-ghost use Rattle.history_desk.specs.Desk.{out, other_test, image_test, list_test, on_buffer, test_line};
+ghost use Rattle.history_desk.specs.Desk.{out, other_test, image_test, list_test, on_buffer, buffer_at, test_line};
 
-use history_buffers::{Answered, BUFFERS};
+use history_buffers::{Answered, BUFFERS, STORE, TABLES};
 use history_calls::Reply;
 use history_lent::sizes::{
     FIRST_IMAGE, FIRST_LIST, IMAGE_BUFFER, LAST_IMAGE, LAST_LIST, LIST_BUFFER, LISTS_START,
@@ -63,6 +63,7 @@ fn test_image(
     )
 }
 
+// Like an image's, and no function for both: it would take the four numbers of its kind of buffer from these two alone.
 fn test_list(
     others: &mut [u32],
     lengths: [u32; BUFFERS],
@@ -90,6 +91,7 @@ fn test_list(
     )
 }
 
+#[tactic(auto, using(crate::specs::Speaking::buffer_lines))]
 fn test_on(
     store: &mut [u32],
     tables: &mut [u32],
@@ -102,15 +104,25 @@ fn test_on(
     ensures { out result store.new tables.new others.new ≡ on_buffer word buffer numbers lengths store.old tables.old others.old }
 {
     match buffer {
-        Buffer::Store => history_buffers::test(store, lengths, 0, word, numbers),
-        Buffer::Tables => history_buffers::test(tables, lengths, 1, word, numbers),
+        Buffer::Store => history_buffers::test(store, lengths, STORE, word, numbers),
+        Buffer::Tables => history_buffers::test(tables, lengths, TABLES, word, numbers),
         Buffer::Image(k) => test_image(others, lengths, k, word, numbers),
         Buffer::List(k) => test_list(others, lengths, k, word, numbers),
-        Buffer::Unknown => Answered {
-            reply: Reply::Bad,
-            lengths,
-        },
     }
+}
+
+// The buffer that is named after the space at a place, and the numbers behind it.
+fn buffer_at(line: &[u8], at: usize) -> Option<(Buffer, Numbers)>
+    ensures { result ≡ buffer_at line.now at }
+{
+    if line.len() <= at {
+        return None;
+    }
+    let from = at + 1;
+    let to = history_words::word_end(line, from);
+    let buffer = history_lines::buffers::buffer_named(&line[from..to])?;
+    let numbers = history_words::numbers_at(line, to)?;
+    Some((buffer, numbers))
 }
 
 pub fn test_line(
@@ -124,15 +136,11 @@ pub fn test_line(
 ) -> Answered
     ensures { out result store.new tables.new others.new ≡ test_line word line.now at lengths store.old tables.old others.old }
 {
-    if line.len() <= at {
+    let Some((buffer, numbers)) = buffer_at(line, at) else {
         return Answered {
             reply: Reply::Bad,
             lengths,
         };
-    }
-    let from = at + 1;
-    let to = history_words::word_end(line, from);
-    let buffer = history_lines::buffers::buffer_named(&line[from..to]);
-    let numbers = history_words::numbers_at(line, to);
+    };
     test_on(store, tables, others, lengths, word, buffer, numbers)
 }

@@ -1,15 +1,15 @@
-// Where a line departs from its form: the first word that is wrong, from left to right; then a word too many; then what is not there, or is lent twice.
-ghost use Rattle.std.specs.Prelude.{length};
-ghost use Rattle.history_faults.specs.Parts.{Within};
+// Where a line departs from its form: the first word that is wrong, from left to right; then a word too many; then what
+// is not there, or is lent twice.
 
 use crate::beyond::first_beyond;
+use crate::forms::fields;
 use crate::number_faults::{number_fault, signed_fault};
-use crate::parts::{Part, word_after};
-use history_lines::Buffer;
+use crate::words::next_word;
+use history_lines::buffers::buffer_named;
+use std::fmt::{self, Display};
 
 #[derive(Clone, Copy)]
 pub enum Fault {
-    None,
     Missing, // no word
     Empty, // a word of no bytes: "words parted by exactly one space"
     NoNumber, // other bytes than digits
@@ -23,100 +23,102 @@ pub enum Fault {
     Twice, // one image where two are lent
 }
 
-// A fault, and the field of the form that it is about; no bytes where it is about none.
-#[derive(Clone, Copy)]
-pub struct Departure {
-    pub fault: Fault,
-    pub field: Part,
+// What is wrong, after the field that it is wrong with, if it is one.
+impl Display for Fault {
+    fn fmt<W: fmt::Write>(&self, f: &mut fmt::Formatter<W>) -> fmt::Result {
+        f.write_str(match self {
+            Fault::Missing => " is missing",
+            Fault::Empty => " is empty (a space too many)",
+            Fault::NoNumber => " is no number",
+            Fault::Long => " has more than ten digits",
+            Fault::Large => " is above 4294967295",
+            Fault::Range => " is none of -2147483648 to 2147483647",
+            Fault::NoBuffer => " is none of store, tables, image0 to image3, list0, list1",
+            Fault::Word => "a word too many",
+            Fault::Space => "a space too many",
+            Fault::Beyond => " is beyond what is there",
+            Fault::Twice => "one image is named twice",
+        })
+    }
 }
 
-fn buffer_fault(word: &[u8]) -> Fault {
-    let named = history_lines::buffers::buffer_named(word);
-    match named {
-        Buffer::Unknown => Fault::NoBuffer,
-        Buffer::Store => Fault::None,
-        Buffer::Tables => Fault::None,
-        Buffer::Image(k) => Fault::None,
-        Buffer::List(k) => Fault::None,
+// The form that a line departs from, a fault, and the field of the form that it is about, if it is about one.
+#[derive(Clone, Copy)]
+pub struct Departure {
+    form: &'static str,
+    field: Option<&'static str>,
+    fault: Fault,
+}
+
+impl Display for Departure {
+    fn fmt<W: fmt::Write>(&self, f: &mut fmt::Formatter<W>) -> fmt::Result {
+        let Departure { form, field, fault } = *self;
+        let field = field.unwrap_or("");
+        write!(f, "{form}: {field}{fault}")
     }
+}
+
+fn buffer_fault(word: &[u8]) -> Option<Fault> {
+    if buffer_named(word).is_some() {
+        return None;
+    }
+    Some(Fault::NoBuffer)
 }
 
 // What is wrong with a word that stands for a field.
-fn word_fault(field: &[u8], word: &[u8]) -> Fault {
-    if word.len() == 0 {
-        return Fault::Empty;
+fn word_fault(field: &str, word: &[u8]) -> Option<Fault> {
+    if word.is_empty() {
+        return Some(Fault::Empty);
     }
-    if history_words::same(field, b"BUFFER") {
-        return buffer_fault(word);
+    match field {
+        "BUFFER" => buffer_fault(word),
+        "SIGNED" => signed_fault(word),
+        _ => number_fault(word),
     }
-    if history_words::same(field, b"SIGNED") {
-        return signed_fault(word);
-    }
-    number_fault(word)
 }
 
-// The same by the places of both; a line that ends before a field's first byte lacks it.
-fn fault_at(form: &[u8], field: Part, line: &[u8], word: Part) -> Fault
-    requires within { Within field (length form.now) }
-    requires within_2 { Within word (length line.now) }
-{
-    if word.from == line.len() {
-        return Fault::Missing;
-    }
-    let field_from = field.from;
-    let field_to = field.to;
-    let word_from = word.from;
-    let word_to = word.to;
-    word_fault(&form[field_from..field_to], &line[word_from..word_to])
-}
-
-// Every field has its word: what follows the last is too much; if nothing does, something is not there, and if all is there, one
-// image is named twice.
-fn departure_at_end(form: &[u8], line: &[u8], at: usize) -> Departure
-    ensures { Within result.field (length form.now) }
-{
-    let word = word_after(line, at);
-    if word.from < word.to {
-        return Departure {
-            fault: Fault::Word,
-            field: Part { from: 0, to: 0 },
+// Every field has its word: what follows the last is too much; if nothing does, something is not there, and if all is
+// there, one image is named twice.
+fn departure_at_end(form: &'static str, words: &[u8], rest: &[u8]) -> Departure {
+    if rest.is_empty() {
+        let field = first_beyond(form, words);
+        let fault = if field.is_some() {
+            Fault::Beyond
+        } else {
+            Fault::Twice
         };
+        return Departure { form, field, fault };
     }
-    if at < line.len() {
-        return Departure {
-            fault: Fault::Space,
-            field: Part { from: 0, to: 0 },
-        };
-    }
-    let field = first_beyond(form, line);
-    if field.to == 0 {
-        return Departure {
-            fault: Fault::Twice,
-            field,
-        };
-    }
+    let fault = match next_word(rest) {
+        Some((word, _)) if !word.is_empty() => Fault::Word,
+        _ => Fault::Space,
+    };
     Departure {
-        fault: Fault::Beyond,
-        field,
+        form,
+        field: None,
+        fault,
     }
 }
 
-// The first departure, from left to right.
-pub fn find_departure(form: &[u8], line: &[u8]) -> Departure
-    ensures { Within result.field (length form.now) }
-{
-    let mut at = history_words::word_end(form, 0);
-    let mut read = history_words::word_end(line, 0);
-    while at < form.len() {
-        let field = word_after(form, at);
-        let word = word_after(line, read);
-        let fault = fault_at(form, field, line, word);
-        match fault {
-            Fault::None => {}
-            _ => return Departure { fault, field },
+// The first departure, from left to right, of what follows a line's first word.
+pub fn find_departure(form: &'static str, words: &[u8]) -> Departure {
+    let mut rest = words;
+    for field in fields(form) {
+        let Some((word, left)) = next_word(rest) else {
+            return Departure {
+                form,
+                field: Some(field),
+                fault: Fault::Missing,
+            };
+        };
+        if let Some(fault) = word_fault(field, word) {
+            return Departure {
+                form,
+                field: Some(field),
+                fault,
+            };
         }
-        at = field.to;
-        read = word.to;
+        rest = left;
     }
-    departure_at_end(form, line, read)
+    departure_at_end(form, words, rest)
 }

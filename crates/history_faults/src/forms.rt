@@ -1,11 +1,11 @@
-// The form of every line of a history, said once: the word that it begins with, and a field for each word that follows. `help` is answered by this
-// list, and a bad line is held against the form that its word begins. A line is never bad for its NAME, which is any bytes.
-ghost use Rattle.std.specs.Prelude.{length};
-ghost use Rattle.history_faults.specs.Parts.{Within};
+// The form of every line of a history, said once: the word that it begins with, and a field for each word that follows.
+// `help` is answered by this list, and a bad line is held against the form that its word begins. A line is never bad
+// for its NAME, which is any bytes.
 
-use crate::parts::Part;
+use std::iter::Skip;
+use std::str::Split;
 
-pub const FORMS: [u8; 785] = *b"fresh; \
+pub const FORMS: &str = "fresh; \
     tidy; \
     save IMAGE; \
     load IMAGE; \
@@ -42,24 +42,19 @@ pub const FORMS: [u8; 785] = *b"fresh; \
     poke BUFFER CELL VALUE; \
     sum BUFFER";
 
-// The semicolon and the space between two forms.
-const PARTING: usize = 2;
+// The fields of a form, from left to right.
+pub fn fields(form: &'static str) -> Skip<Split<'static, char>> {
+    form.split(' ').skip(1)
+}
 
-// Where the form that begins with a word stands in a list of forms; nothing where none does.
-pub fn form_of(forms: &[u8], word: &[u8]) -> Part
-    ensures { Within result (length forms.now) }
-{
-    let mut from = 0;
-    while from < forms.len() {
-        let end = history_words::scan::find(forms, from, forms.len(), b';');
-        let to = history_words::scan::find(forms, from, end, b' ');
-        if history_words::same(&forms[from..to], word) {
-            return Part { from, to: end };
-        }
-        if forms.len() - end <= PARTING {
-            return Part { from: 0, to: 0 };
-        }
-        from = end + PARTING;
-    }
-    Part { from: 0, to: 0 }
+// Whether it is this form that a word begins.
+fn is_begun_by(form: &str, word: &[u8]) -> bool {
+    form.split(' ')
+        .next()
+        .is_some_and(|first| first.as_bytes() == word)
+}
+
+// The form that a word begins.
+pub fn form_of(word: &[u8]) -> Option<&'static str> {
+    FORMS.split("; ").find(|form| is_begun_by(form, word))
 }

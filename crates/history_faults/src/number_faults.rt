@@ -1,77 +1,34 @@
 // What is wrong with a word that is to be a number.
-ghost use Rattle.std.specs.Prelude.{◌≤◌, length};
 
 use crate::faults::Fault;
-use history_words::Number;
-use history_words::signed::SignedNumber;
+use history_words::signed::signed_number_of;
+use history_words::{MOST_DIGITS, number_of};
 
-// A number has at most ten digits.
-const MOST_DIGITS: usize = 10;
-
-fn has_digits_only(word: &[u8]) -> bool {
-    let mut i = 0;
-    while i < word.len() {
-        if word[i] < b'0' {
-            return false;
-        }
-        if b'9' < word[i] {
-            return false;
-        }
-        i += 1;
+pub fn number_fault(word: &[u8]) -> Option<Fault> {
+    if number_of(word).is_some() {
+        return None;
     }
-    true
+    Some(digits_fault(word, Fault::Large))
 }
 
-pub fn number_fault(word: &[u8]) -> Fault {
-    let read = history_words::number_of(word);
-    match read {
-        Number::Is(n) => Fault::None,
-        Number::Bad => {
-            if !has_digits_only(word) {
-                return Fault::NoNumber;
-            }
-            if MOST_DIGITS < word.len() {
-                return Fault::Long;
-            }
-            Fault::Large
-        }
+pub fn signed_fault(word: &[u8]) -> Option<Fault> {
+    if signed_number_of(word).is_some() {
+        return None;
     }
+    let digits = word.strip_prefix(b"-").unwrap_or(word);
+    Some(digits_fault(digits, Fault::Range))
 }
 
-// Where the digits of a signed number begin.
-fn after_sign(word: &[u8]) -> usize
-    ensures { result ≤ length word.now }
-{
-    if word.len() == 0 {
-        return 0;
-    }
-    if word[0] == b'-' {
-        return 1;
-    }
-    0
-}
-
-pub fn signed_fault(word: &[u8]) -> Fault {
-    let read = history_words::signed::signed_number_of(word);
-    match read {
-        SignedNumber::Is(_number) => Fault::None,
-        SignedNumber::Bad => {
-            let from = after_sign(word);
-            digits_fault(&word[from..])
-        }
-    }
-}
-
-// Of digits that make no signed number.
-fn digits_fault(digits: &[u8]) -> Fault {
-    if digits.len() == 0 {
+// What is wrong with digits that make no number: `otherwise`, where all of them are digits and not too many.
+fn digits_fault(digits: &[u8], otherwise: Fault) -> Fault {
+    if digits.is_empty() {
         return Fault::NoNumber;
     }
-    if !has_digits_only(digits) {
+    if !digits.iter().all(|byte| byte.is_ascii_digit()) {
         return Fault::NoNumber;
     }
     if MOST_DIGITS < digits.len() {
         return Fault::Long;
     }
-    Fault::Range
+    otherwise
 }

@@ -1,19 +1,16 @@
 -- What the code of save and load uses of their meaning, where cells are lent from 0 on. Assumes nothing.
-use Rattle.std.specs.Prelude.{ℕ, ◌+◌, ◌-◌, ◌≤◌, ◌<◌, ◌≡◌, Bool, true, false, List, ◌++◌, length, take}
+use Rattle.std.specs.Prelude.{ℕ, ◌+◌, ◌-◌, ◌≤◌, ◌<◌, ◌≡◌, Bool, true, false, List, ◌++◌, length, take, Option, Some, None}
 use Rattle.std.proofs.Math.Path.{sym, ap}
 use Rattle.std.proofs.Common.{◌∙◌, arith}
 use Rattle.std.proofs.Math.Nat.{sub-zero}
 use borrow.Author.Tests.{lt-ltb, le-ltb, eq-eqb, ne_eqb}
 use Rattle.std.proofs.Math.ListN.{drop}
-use Rattle.answers.specs.declared.Answer.{Answer}
-use Rattle.answers.specs.Said.{said}
+use Rattle.answers.specs.Said.{Answer, said}
 use Rattle.combine.specs.Outcome.{Outcome, outcome_of}
 use Rattle.cells.specs.Outcomes.{Lent, lent, Saved, saved, save_out, load_out}
 use Rattle.history_calls.specs.declared.Reply.{Reply}
 use Rattle.history_calls.specs.declared.Reply.TheVariants.{Bad}
 use Rattle.history_calls.specs.Told.{reply_of}
-use Rattle.history_words.specs.declared.Number.{Number}
-use Rattle.history_words.specs.declared.Number.TheVariants as number
 use Rattle.history_buffers.specs.Numbers.{on_one}
 use Rattle.history_buffers.specs.Buffers.{lent_of}
 use Rattle.history_lent.specs.Rooms.{image_buffer, last_image, others_length, first_image, image_start, Lending, lending}
@@ -64,12 +61,12 @@ module _ (l : List ℕ) (b : Bool) (s t i : List ℕ) where
 
   -- ---- the number of a line
 
-  module _ (found : Number) where
-    pub image-bad : found ≡ number.Bad → lending Bad s t i ≡ image_line l found b s t i
+  module _ (found : Option ℕ) where
+    pub image-bad : found ≡ None → lending Bad s t i ≡ image_line l found b s t i
     unfolding image_line
     image-bad q = sym (ap (on_one (λ k. image_call l k b s t i) (lending Bad s t i)) q)
 
-    pub image-one : (k : ℕ) (y : Lending) → found ≡ number.Is k → y ≡ image_call l k b s t i → y ≡ image_line l found b s t i
+    pub image-one : (k : ℕ) (y : Lending) → found ≡ Some k → y ≡ image_call l k b s t i → y ≡ image_line l found b s t i
     unfolding image_line
     image-one k y q r = r ∙ sym (ap (on_one (λ k. image_call l k b s t i) (lending Bad s t i)) q)
 

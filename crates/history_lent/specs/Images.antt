@@ -1,9 +1,8 @@
 -- Save and load: s, t and i are the cells of the buffers store, tables and of images and lists, l has the numbers of cells lent of each. Assumes nothing.
-use Rattle.std.specs.Prelude.{ℕ, ◌+◌, Bool, cond, List, ltb, eqb, length, take}
+use Rattle.std.specs.Prelude.{ℕ, ◌+◌, Bool, cond, List, ltb, eqb, length, take, Option}
 use Rattle.cells.specs.Outcomes.{save_out, load_out}
 use Rattle.history_calls.specs.declared.Reply.TheVariants.{Bad}
 use Rattle.history_calls.specs.Told.{reply_of}
-use Rattle.history_words.specs.declared.Number.{Number}
 use Rattle.history_buffers.specs.Numbers.{on_one}
 use Rattle.history_buffers.specs.Buffers.{lent_of}
 use Rattle.history_lent.specs.Rooms.{image_buffer, last_image, others_length, first_image, image_start, other_at, with_other, before_rest, Lending, lending}
@@ -28,5 +27,5 @@ image_call l k saves s t i =
     (cond (eqb (length i) others_length) (cond saves (saved_to ns nt n k s t i) (loaded_from ns nt n k s t i)) (lending Bad s t i))
 
 -- a number that is no buffer's, or that is missing, is a bad line
-unfoldable pub image_line : List ℕ → Number → Bool → List ℕ → List ℕ → List ℕ → Lending
+unfoldable pub image_line : List ℕ → Option ℕ → Bool → List ℕ → List ℕ → List ℕ → Lending
 image_line l found saves s t i = on_one (λ k. image_call l k saves s t i) (lending Bad s t i) found

@@ -17,10 +17,10 @@ use Rattle.cells.specs.Runs.{Written, written, written_by, Filled, filled, fille
 use Rattle.history_calls.specs.declared.Reply.{Reply}
 use Rattle.history_calls.specs.declared.Reply.TheVariants as reply
 use Rattle.history_calls.specs.Told.{Told, told}
-use Rattle.history_words.specs.declared.Numbers.{Numbers}
 use Rattle.history_buffers.specs.Buffers.{lent_of}
-use Rattle.history_lent.specs.Rooms.{list_buffer, last_list, others_length, first_list, list_start, Lending, lending}
+use Rattle.history_lent.specs.Rooms.{list_buffer, last_list, others_length, first_list, list_start, lending, Lending}
 use Rattle.history_lent.specs.Lists.{wrote_list, Filling, filling, filled_list, wrote_from, filled_into, run_call, run_line}
+use Rattle.history_words.specs.declared.Numbers.{Numbers}
 
 -- ---- a run does not come to more elements than its list has
 

@@ -58,4 +58,3 @@ run_line l Numbers.Zero written s t i = lending Bad s t i
 run_line l (Numbers.One a) written s t i = lending Bad s t i
 run_line l (Numbers.Two a b) written s t i = lending Bad s t i
 run_line l (Numbers.Three a b c) written s t i = lending Bad s t i
-run_line l Numbers.Bad written s t i = lending Bad s t i

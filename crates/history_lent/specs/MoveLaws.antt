@@ -5,17 +5,16 @@ use Rattle.std.proofs.Common.{◌∙◌, arith, take-take}
 use Rattle.std.proofs.Math.Nat.{sub-zero}
 use borrow.Author.Tests.{lt-ltb, le-ltb, eq-eqb, ne_eqb}
 use Rattle.std.proofs.Math.ListN.{drop}
-use Rattle.answers.specs.declared.Answer.{Answer}
-use Rattle.answers.specs.Said.{said}
+use Rattle.answers.specs.Said.{Answer, said}
 use Rattle.combine.specs.Outcome.{Outcome, outcome_of}
 use Rattle.image.specs.Reformed.{up_out, down_out}
 use Rattle.history_calls.specs.declared.Reply.{Reply}
 use Rattle.history_calls.specs.declared.Reply.TheVariants.{Bad}
 use Rattle.history_calls.specs.Told.{reply_of}
-use Rattle.history_words.specs.declared.Numbers.{Numbers}
 use Rattle.history_buffers.specs.Buffers.{lent_of}
 use Rattle.history_lent.specs.Rooms.{image_buffer, last_image, others_length, first_image, image_start}
-use Rattle.history_lent.specs.Moves.{Moving, moving, moved_by, moved_into, move_call, move_line}
+use Rattle.history_lent.specs.Moves.{moving, moved_by, moved_into, move_call, Moving, move_line}
+use Rattle.history_words.specs.declared.Numbers.{Numbers}
 
 -- ---- up, or down
 

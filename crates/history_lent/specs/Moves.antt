@@ -45,4 +45,3 @@ move_line l Numbers.Zero climbs x = moving Bad x
 move_line l (Numbers.One a) climbs x = moving Bad x
 move_line l (Numbers.Two a b) climbs x = moving Bad x
 move_line l (Numbers.Four a b c d) climbs x = moving Bad x
-move_line l Numbers.Bad climbs x = moving Bad x

@@ -6,7 +6,7 @@ ghost use Rattle.history_lent.specs.Rooms.{list_buffer, lending};
 ghost use Rattle.history_lent.specs.Lists.{wrote_list, filling, filled_list, run_call, run_line};
 
 use crate::sizes::{FIRST_LIST, LAST_LIST, LIST_BUFFER, LISTS_START, OTHERS_BUFFER};
-use history_buffers::BUFFERS;
+use history_buffers::{BUFFERS, STORE, TABLES};
 use history_calls::Reply;
 use history_words::Numbers;
 
@@ -44,7 +44,8 @@ fn fill_list(
     Reply::Filled(many as u32, place)
 }
 
-// A run over list buffer k.
+// A run over list buffer k. `writes` is a flag, and no function that is handed in: the one run is lent the store to be
+// written and the list to be read, the other the store to be read and the list to be written, so no type is both's.
 fn run_call(
     store: &mut [u32],
     tables: &mut [u32],
@@ -65,8 +66,8 @@ fn run_call(
     if others.len() != OTHERS_BUFFER {
         return Reply::Bad;
     }
-    let s = history_buffers::lent(lengths, 0, store.len());
-    let t = history_buffers::lent(lengths, 1, tables.len());
+    let s = history_buffers::lent(lengths, STORE, store.len());
+    let t = history_buffers::lent(lengths, TABLES, tables.len());
     let n = history_buffers::lent(lengths, FIRST_LIST + at, LIST_BUFFER);
     let from = LISTS_START + LIST_BUFFER * at;
     let to = from + n;
@@ -100,14 +101,10 @@ pub fn run_line(
 ) -> Reply
     ensures { lending result store.new tables.new others.new ≡ run_line lengths numbers writes store.old tables.old others.old }
 {
-    match numbers {
-        Numbers::Four(user, entry, pointer, k) => run_call(
-            store, tables, others, lengths, user, entry, pointer, k, writes,
-        ),
-        Numbers::Zero => Reply::Bad,
-        Numbers::One(a) => Reply::Bad,
-        Numbers::Two(a, b) => Reply::Bad,
-        Numbers::Three(a, b, c) => Reply::Bad,
-        Numbers::Bad => Reply::Bad,
-    }
+    let Numbers::Four(user, entry, pointer, k) = numbers else {
+        return Reply::Bad;
+    };
+    run_call(
+        store, tables, others, lengths, user, entry, pointer, k, writes,
+    )
 }

@@ -9,7 +9,8 @@ use history_buffers::BUFFERS;
 use history_calls::Reply;
 use history_words::Numbers;
 
-// Up, or down.
+// Up, or down: by a flag, and by no function that is handed in, as the contracts say of each flag what a move comes to,
+// and of a function would have to ask that it comes to the same.
 fn moved(image: &[u32], buffer: &mut [u32], segments: u32, climbs: bool) -> Answer
     ensures { moved_outcome result buffer.new ≡ moved_by climbs image.now buffer.old segments }
 {
@@ -49,7 +50,7 @@ fn move_call(
     let source = IMAGE_BUFFER * from;
     let base = IMAGE_BUFFER * into;
     let mut image = [0u32; IMAGE_BUFFER];
-    combine::copy_cells(&others[source..source + IMAGE_BUFFER], &mut image);
+    image.copy_from_slice(&others[source..source + IMAGE_BUFFER]);
     history_calls::replied(moved(&image[0..n], &mut others[base..base + m], segments, climbs))
 }
 
@@ -61,12 +62,8 @@ pub fn move_line(
 ) -> Reply
     ensures { moving result others.new ≡ move_line lengths numbers climbs others.old }
 {
-    match numbers {
-        Numbers::Three(i, j, segments) => move_call(others, lengths, i, j, segments, climbs),
-        Numbers::Zero => Reply::Bad,
-        Numbers::One(a) => Reply::Bad,
-        Numbers::Two(a, b) => Reply::Bad,
-        Numbers::Four(a, b, c, d) => Reply::Bad,
-        Numbers::Bad => Reply::Bad,
-    }
+    let Numbers::Three(i, j, segments) = numbers else {
+        return Reply::Bad;
+    };
+    move_call(others, lengths, i, j, segments, climbs)
 }

@@ -1,5 +1,6 @@
-// The sizes of the buffers, and what is lent of them at first: "store (65,600 cells), tables (at least 64 cells longer than the tables' one length),
-// image0 to image3 (1,024 cells each)"; "Two list buffers, list0 and list1, 2,112 cells each". Images and lists lie in one slice.
+// The sizes of the buffers, and what is lent of them at first: "store (65,600 cells), tables (at least 64 cells longer
+// than the tables' one length), image0 to image3 (1,024 cells each)"; "Two list buffers, list0 and list1, 2,112 cells
+// each". Images and lists lie in one slice.
 use history_buffers::BUFFERS;
 use image::IMAGE_LENGTH;
 use placing::{MOST_SEGMENTS, SEGMENT_CELLS, TABLES_LENGTH};

@@ -1,5 +1,5 @@
 -- The words of histories, spelt as bytes, by what follows them. Assumes nothing.
-use Rattle.std.specs.Prelude.{ℕ, ◌≡◌, Bool, true, false, cond, List, [], ◌∷◌}
+use Rattle.std.specs.Prelude.{ℕ, ◌≡◌, Bool, true, false, cond, List, [], ◌∷◌, Option, Some, None}
 use Rattle.std.proofs.Math.Path.{refl}
 use Rattle.std.proofs.Common.{sym, ◌∙◌}
 use Rattle.history_words.specs.Words.{sameb}
@@ -7,26 +7,24 @@ use Rattle.history_lines.specs.declared.OfTwo.{OfTwo}
 use Rattle.history_lines.specs.declared.OfThree.{OfThree}
 use Rattle.history_lines.specs.declared.OfName.{OfName}
 
--- what stands beside a word in a table, or otherwise what is given
+-- what stands beside a word in a table; nothing where the word is not in it
 module _ {A : Type 0} where
-  unfoldable pub found : List (List ℕ × A) → A → List ℕ → A
-  found [] otherwise w = otherwise
-  found (r ∷ rows) otherwise w = cond (sameb w r.0) r.1 (found rows otherwise w)
+  unfoldable pub found : List (List ℕ × A) → List ℕ → Option A
+  found [] w = None
+  found (r ∷ rows) w = cond (sameb w r.0) (Some r.1) (found rows w)
 
-  module _ (rows : List (List ℕ × A)) (otherwise x : A) (w spelt : List ℕ) (b : Bool) (e : b ≡ sameb w spelt) where
-    pub found_here : b ≡ true → x ≡ found ((spelt, x) ∷ rows) otherwise w
+  module _ (rows : List (List ℕ × A)) (x : A) (w spelt : List ℕ) (b : Bool) (e : b ≡ sameb w spelt) where
+    pub found_here : b ≡ true → Some x ≡ found ((spelt, x) ∷ rows) w
     unfolding found
     found_here t = rw (sym e ∙ t) refl
 
-    pub found-on : (y : A) → b ≡ false → y ≡ found rows otherwise w → y ≡ found ((spelt, x) ∷ rows) otherwise w
+    pub found-on : (y : Option A) → b ≡ false → y ≡ found rows w → y ≡ found ((spelt, x) ∷ rows) w
     unfolding found
     found-on y t r = rw (sym e ∙ t) r
 
-  pub found_nowhere : (otherwise : A) (w : List ℕ) → otherwise ≡ found [] otherwise w
+  pub found_nowhere : (w : List ℕ) → ◌≡◌ {A = Option A} None (found [] w)
   unfolding found
-  found_nowhere otherwise w = refl
-
-pub ruleset looking = (found_here, found-on, found_nowhere)
+  found_nowhere w = refl
 
 abbrev pub two_words : List (List ℕ × OfTwo)
 two_words =

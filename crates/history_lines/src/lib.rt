@@ -3,14 +3,10 @@
 
 ghost use Rattle.std.specs.Prelude.{◌≡◌};
 ghost use Rattle.history_lines.specs.Spelling.{found, two_words, three_words, name_words};
-ghost use Rattle.history_lines.specs.declared.OfTwo.TheVariants as OfTwo;
-ghost use Rattle.history_lines.specs.declared.OfThree.TheVariants as OfThree;
-ghost use Rattle.history_lines.specs.declared.OfName.TheVariants as OfName;
-ghost use Rattle.history_lines.specs.Naming.{named_at, entry_at};
-
-use history_words::NumberAt;
+ghost use Rattle.history_lines.specs.Naming.{named_at};
 
 pub mod buffers; // the words of buffers
+mod spelling; // a word looked up in a table
 pub mod signed; // what follows the word of a signed write
 
 // The words that are followed by user and entry.
@@ -25,7 +21,6 @@ pub enum OfTwo {
     Permit,
     Begin,
     End,
-    Unknown,
 }
 
 // The words that are followed by user, entry and one number more.
@@ -40,7 +35,6 @@ pub enum OfThree {
     Value,
     NextSigned,
     PrevSigned,
-    Unknown,
 }
 
 // The words that are followed by user, entry and a name.
@@ -49,7 +43,6 @@ pub enum OfName {
     Work,
     Read,
     Rename,
-    Unknown,
 }
 
 // The words that are followed by a buffer, for tests.
@@ -59,7 +52,6 @@ pub enum OfBuffer {
     Peek,
     Poke,
     Sum,
-    Unknown,
 }
 
 // The buffers of the lines that are no calls.
@@ -69,7 +61,6 @@ pub enum Buffer {
     Tables,
     Image(usize),
     List(usize),
-    Unknown,
 }
 
 // The words of the calls to which a buffer is lent beside store and tables, an image, or a list for a run; and of those that are lent two images alone.
@@ -81,114 +72,61 @@ pub enum OfLent {
     Nexts,
     Up,
     Down,
-    Unknown,
 }
 
-// User and entry of a line with a name, and the place where the entry's word ends.
-#[derive(Clone, Copy)]
-pub enum Named {
-    Is(u32, u32, usize),
-    Bad,
-}
+const TWO_WORDS: [(&[u8], OfTwo); 9] = [
+    (b"close", OfTwo::Close),
+    (b"public", OfTwo::Public),
+    (b"abandon", OfTwo::Abandon),
+    (b"reset", OfTwo::Reset),
+    (b"species", OfTwo::Species),
+    (b"claim", OfTwo::Claim),
+    (b"permit", OfTwo::Permit),
+    (b"begin", OfTwo::Begin),
+    (b"end", OfTwo::End),
+];
 
-pub fn of_two_word(word: &[u8]) -> OfTwo
-    ensures { result ≡ found two_words OfTwo.Unknown word.now }
+pub fn of_two_word(word: &[u8]) -> Option<OfTwo>
+    ensures { result ≡ found two_words word.now }
 {
-    if history_words::same(word, b"close") {
-        return OfTwo::Close;
-    }
-    if history_words::same(word, b"public") {
-        return OfTwo::Public;
-    }
-    if history_words::same(word, b"abandon") {
-        return OfTwo::Abandon;
-    }
-    if history_words::same(word, b"reset") {
-        return OfTwo::Reset;
-    }
-    if history_words::same(word, b"species") {
-        return OfTwo::Species;
-    }
-    if history_words::same(word, b"claim") {
-        return OfTwo::Claim;
-    }
-    if history_words::same(word, b"permit") {
-        return OfTwo::Permit;
-    }
-    if history_words::same(word, b"begin") {
-        return OfTwo::Begin;
-    }
-    if history_words::same(word, b"end") {
-        return OfTwo::End;
-    }
-    OfTwo::Unknown
+    spelling::meaning_of(&TWO_WORDS, word)
 }
 
-pub fn of_three_word(word: &[u8]) -> OfThree
-    ensures { result ≡ found three_words OfThree.Unknown word.now }
+const THREE_WORDS: [(&[u8], OfThree); 9] = [
+    (b"next", OfThree::Next),
+    (b"prev", OfThree::Prev),
+    (b"new", OfThree::New),
+    (b"pointer", OfThree::Pointer),
+    (b"delete", OfThree::Delete),
+    (b"symbol", OfThree::Symbol),
+    (b"value", OfThree::Value),
+    (b"next_signed", OfThree::NextSigned),
+    (b"prev_signed", OfThree::PrevSigned),
+];
+
+pub fn of_three_word(word: &[u8]) -> Option<OfThree>
+    ensures { result ≡ found three_words word.now }
 {
-    if history_words::same(word, b"next") {
-        return OfThree::Next;
-    }
-    if history_words::same(word, b"prev") {
-        return OfThree::Prev;
-    }
-    if history_words::same(word, b"new") {
-        return OfThree::New;
-    }
-    if history_words::same(word, b"pointer") {
-        return OfThree::Pointer;
-    }
-    if history_words::same(word, b"delete") {
-        return OfThree::Delete;
-    }
-    if history_words::same(word, b"symbol") {
-        return OfThree::Symbol;
-    }
-    if history_words::same(word, b"value") {
-        return OfThree::Value;
-    }
-    if history_words::same(word, b"next_signed") {
-        return OfThree::NextSigned;
-    }
-    if history_words::same(word, b"prev_signed") {
-        return OfThree::PrevSigned;
-    }
-    OfThree::Unknown
+    spelling::meaning_of(&THREE_WORDS, word)
 }
 
-pub fn of_name_word(word: &[u8]) -> OfName
-    ensures { result ≡ found name_words OfName.Unknown word.now }
+const NAME_WORDS: [(&[u8], OfName); 3] = [
+    (b"work", OfName::Work),
+    (b"read", OfName::Read),
+    (b"rename", OfName::Rename),
+];
+
+pub fn of_name_word(word: &[u8]) -> Option<OfName>
+    ensures { result ≡ found name_words word.now }
 {
-    if history_words::same(word, b"work") {
-        return OfName::Work;
-    }
-    if history_words::same(word, b"read") {
-        return OfName::Read;
-    }
-    if history_words::same(word, b"rename") {
-        return OfName::Rename;
-    }
-    OfName::Unknown
+    spelling::meaning_of(&NAME_WORDS, word)
 }
 
-// The user and the entry that follow a place of the line.
-pub fn named_at(line: &[u8], at: usize) -> Named
+// The user and the entry that follow a place of the line, and the place where the entry's word ends.
+pub fn named_at(line: &[u8], at: usize) -> Option<(u32, u32, usize)>
     ensures { result ≡ named_at line.now at }
 {
-    let found = history_words::number_at(line, at);
-    match found {
-        NumberAt::Is(user, to) => entry_at(line, to, user),
-        NumberAt::Bad => Named::Bad,
-    }
-}
-
-fn entry_at(line: &[u8], at: usize, user: u32) -> Named
-    ensures { result ≡ entry_at line.now user at }
-{
-    let found = history_words::number_at(line, at);
-    match found {
-        NumberAt::Is(entry, to) => Named::Is(user, entry, to),
-        NumberAt::Bad => Named::Bad,
-    }
+    let (user, after_user) = history_words::number_at(line, at)?;
+    let (entry, after_entry) = history_words::number_at(line, after_user)?;
+    Some((user, entry, after_entry))
 }

@@ -1,105 +1,80 @@
--- What the code's sums and tests of signed numbers are: a signed number z is read back from its bits, to_z w64 (of_z w64 z). Assumes nothing.
-use Prim.Native.Nat.{ℕ, zero, suc, ◌+◌, ◌-◌, ◌≤◌, ◌<◌}
-use mathlib.Core.Path.{◌≡◌, refl, sym, ap, ◌∙◌}
-use mathlib.Core.Bool.{Bool, true, false}
-use mathlib.Core.List.{List, [], ◌∷◌}
-use native.Mathlib.Omega.{arith}
-use lib.IntN.{ℤ, pos, negsuc, ◌-ℤ◌}
-use lib.ListN.{length, get_or, drop, length-drop}
-use lib.Seq.{take_all}
-use lib.Signed.{lt_z}
-use borrow.Author.Tests.{eq-eqb, ne_eqb, lt-ltb, ltb-false}
+-- What the code that reads signed numbers uses of their meaning. Assumes nothing.
+use Rattle.std.proofs.Common.{ℕ, zero, suc, ◌+◌, ◌-◌, ◌≤◌, ◌<◌, ◌≡◌, refl, sym, ap, ◌∙◌, arith, Bool, true, false, List, [], ◌∷◌, length, drop, length-drop, take_all, ℤ, pos, negsuc, ◌-ℤ◌, OkIff, Result, Ok, Err, Option, Some, None}
+use Rattle.std.specs.Result.{result_ok}
+use borrow.Author.Tests.{eq-eqb, ne_eqb, lt-ltb, le-ltb}
+use lib.Signed.{mag}
 use mir.Syntax.{w32, w64}
 use mir.Val.{SFits, of_z, to_z}
-use mir.ValLaws.{to_z-of_z, to_z_pos}
-use Rattle.history_words.specs.declared.Number.{Number}
-use Rattle.history_words.specs.declared.Number.TheVariants as number
-use Rattle.history_words.specs.declared.signed.SignedNumber.{SignedNumber}
-use Rattle.history_words.specs.declared.signed.SignedNumber.TheVariants as signed
+use mir.ValLaws.{to_z-of_z}
 use Rattle.history_words.specs.Words.{number_of, part, in_range, with_sign, signed_number_of, last_signed}
 
--- ---- in_range: what passes both tests is a number of 32 bits
+-- ---- in_range: a number of 32 bits
 
-between : (z : ℤ) → lt_z z (negsuc 2147483647) ≡ false → lt_z (pos 2147483647) z ≡ false → SFits w32 z
-between (pos n) a b = record { sfits = omega (arith, ltb-false 2147483647 n b) }
-between (negsuc k) a b = record { sfits = omega (arith, ltb-false 2147483647 k a) }
+inside : (z : ℤ) → SFits w32 z → Some z ≡ in_range z
+unfolding in_range
+inside (pos n) f = simp (le-ltb 2147483647 n (omega (arith, f.sfits)))
+inside (negsuc k) f = simp (le-ltb 2147483647 k (omega (arith, f.sfits)))
 
-module _ (z : ℤ) (f : SFits w64 z) where
-  abbrev read : ℤ
-  read = to_z w64 (of_z w64 z)
+outside : (z : ℤ) → (SFits w32 z → ⊥) → None ≡ in_range z
+unfolding in_range
+outside (pos n) f = simp (lt-ltb 2147483647 n (let g : n < 2147483648 → ⊥ = λ l. f (record { sfits = l }) in omega (arith, g)))
+outside (negsuc k) f = simp (lt-ltb 2147483647 k (let g : k < 2147483648 → ⊥ = λ l. f (record { sfits = l }) in omega (arith, g)))
 
-  back : read ≡ z
-  back = to_z-of_z w64 z f
+module _ {E : Type 0} where
+  converted : (t : Result ℤ E) (z : ℤ) → OkIff t (SFits w32 z) z → result_ok t ≡ in_range z
+  converted (Ok x) z h = ap Some h.1 ∙ inside z h.0
+  converted (Err x) z h = outside z h
 
-  pub below-range : lt_z read (negsuc 2147483647) ≡ true → signed.Bad ≡ in_range z
-  unfolding in_range
-  below-range a = sym (simp (ap (λ (y : ℤ). lt_z y (negsuc 2147483647)) (sym back) ∙ a))
+-- ---- with_sign: digits d that make n, s of 64 bits, whose sign is turned or stays; t is what they come to in 32 bits
 
-  module _ (a : lt_z read (negsuc 2147483647) ≡ false) where
-    pub above-range : lt_z (pos 2147483647) read ≡ true → signed.Bad ≡ in_range z
-    unfolding in_range
-    above-range b = sym (simp (ap (λ (y : ℤ). lt_z y (negsuc 2147483647)) (sym back) ∙ a, ap (lt_z (pos 2147483647)) (sym back) ∙ b))
-
-    module _ (b : lt_z (pos 2147483647) read ≡ false) where
-      pub range-fits : SFits w32 read
-      range-fits = between read a b
-
-      pub in-range : signed.Is (to_z w32 (of_z w32 read)) ≡ in_range z
-      unfolding in_range
-      in-range =
-          ap signed.Is (to_z-of_z w32 read range-fits ∙ back)
-          ∙ sym (simp (ap (λ (y : ℤ). lt_z y (negsuc 2147483647)) (sym back) ∙ a, ap (lt_z (pos 2147483647)) (sym back) ∙ b))
-
--- ---- with_sign: d is what the digits make, m whether a `-` stands before them
-
-less : (n : ℕ) → n < 4294967296 → SFits w64 (pos 0 -ℤ pos n)
+less : (n : ℕ) → n < 9223372036854775808 → SFits w64 (pos 0 -ℤ pos n)
 less zero h = record { sfits = omega arith }
 less (suc k) h = simp (lt-ltb 0 (suc k) (omega arith)) (record { sfits = omega arith })
 
-module _ (n : ℕ) (h : n < 4294967296) where
-  plain : to_z w64 n ≡ pos n
-  plain = to_z_pos w64 n (omega arith)
+abbrev stored : ℤ → ℤ
+stored z = to_z w64 (of_z w64 z)
 
-  pub minus-fits : SFits w64 (pos 0 -ℤ to_z w64 n)
-  minus-fits = rw plain (less n h)
+module _ {E : Type 0} (m : Bool) (d : Option ℕ) (n : ℕ) (s : ℤ) (known : d ≡ Some n) (long : s ≡ pos n) (small : mag s < 9223372036854775808) (t : Result ℤ E) (o : Option ℤ)
+    (got : o ≡ result_ok t) where
+  kept : stored s ≡ pos n
+  kept = to_z-of_z w64 s (record { sfits = small }) ∙ long
 
-  module _ (m : Bool) (d : Number) (r : SignedNumber) (e : d ≡ number.Is n) where
-    pub with-minus : m ≡ true → r ≡ in_range (to_z w64 (of_z w64 (pos 0 -ℤ to_z w64 n))) → r ≡ with_sign m d
-    with-minus t p = p ∙ ap in_range (to_z-of_z w64 (pos 0 -ℤ to_z w64 n) minus-fits ∙ ap (λ (y : ℤ). pos 0 -ℤ y) plain) ∙ sym (λ i. with_sign (t i) (e i))
+  turned : stored (pos 0 -ℤ stored s) ≡ pos 0 -ℤ pos n
+  turned = ap (λ (y : ℤ). stored (pos 0 -ℤ y)) kept ∙ to_z-of_z w64 (pos 0 -ℤ pos n) (less n (omega (arith, small, ap mag long)))
 
-    pub without : m ≡ false → r ≡ in_range (to_z w64 n) → r ≡ with_sign m d
-    without t p = p ∙ ap in_range plain ∙ sym (λ i. with_sign (t i) (e i))
+  pub with-minus : m ≡ true → OkIff t (SFits w32 (stored (pos 0 -ℤ stored s))) (stored (pos 0 -ℤ stored s)) → o ≡ with_sign m d
+  with-minus q h = got ∙ converted t _ h ∙ ap in_range turned ∙ sym (λ j. with_sign (q j) (known j))
 
-pub sign-of-none : (m : Bool) (d : Number) → d ≡ number.Bad → signed.Bad ≡ with_sign m d
+  pub without : m ≡ false → OkIff t (SFits w32 (stored s)) (stored s) → o ≡ with_sign m d
+  without q h = got ∙ converted t _ h ∙ ap in_range kept ∙ sym (λ j. with_sign (q j) (known j))
+
+pub sign-of-none : (m : Bool) (d : Option ℕ) → d ≡ None → None ≡ with_sign m d
 sign-of-none true d e = sym (ap (with_sign true) e)
 sign-of-none false d e = sym (ap (with_sign false) e)
 
 -- ---- signed_number_of, last_signed
 
-pub signed-empty : (w : List ℕ) → length w ≡ 0 → signed.Bad ≡ signed_number_of w
+pub signed-empty : (w : List ℕ) → length w ≡ 0 → None ≡ signed_number_of w
 unfolding number_of signed_number_of
 signed-empty [] e = refl
 signed-empty (b ∷ bs) e = absurd (omega arith)
 
-module _ (w : List ℕ) where
-  rest-is : part 1 (length w) w ≡ drop 1 w
-  rest-is = take_all (length w - 1) (drop 1 w) (let h = length-drop 1 w in omega arith)
-
-  pub signed-minus : (d : Number) (r : SignedNumber) → get_or w 0 0 ≡ 45 → d ≡ number_of (part 1 (length w) w) → r ≡ with_sign true d → r ≡ signed_number_of w
+module _ (w : List ℕ) (b : ℕ) (rest : List ℕ) (parts : w ≡ b ∷ rest) (d : Option ℕ) (r : Option ℤ) where
+  pub signed-minus : b ≡ 45 → d ≡ number_of rest → r ≡ with_sign true d → r ≡ signed_number_of w
   unfolding signed_number_of
-  signed-minus d r e p q = q ∙ ap (with_sign true) (p ∙ ap number_of rest-is) ∙ sym (simp (eq-eqb (get_or w 0 0) 45 e))
+  signed-minus e p q = q ∙ ap (with_sign true) p ∙ sym (ap signed_number_of parts ∙ simp (eq-eqb b 45 e))
 
-  pub signed-plus : (d : Number) (r : SignedNumber) → (get_or w 0 0 ≡ 45 → ⊥) → d ≡ number_of w → r ≡ with_sign false d → r ≡ signed_number_of w
+  pub signed-plus : (b ≡ 45 → ⊥) → d ≡ number_of w → r ≡ with_sign false d → r ≡ signed_number_of w
   unfolding signed_number_of
-  signed-plus d r n p q = q ∙ ap (with_sign false) p ∙ sym (simp (ne_eqb (get_or w 0 0) 45 n))
+  signed-plus n p q = q ∙ ap (with_sign false) (p ∙ ap number_of parts) ∙ sym (ap signed_number_of parts ∙ simp (ne_eqb b 45 n))
 
 module _ (line : List ℕ) (at : ℕ) where
-  pub no_last : length line ≤ at → signed.Bad ≡ last_signed line at
+  pub no_last : length line ≤ at → None ≡ last_signed line at
   unfolding last_signed
   no_last l = signed-empty (drop (at + 1) line) (let h = length-drop (at + 1) line in omega arith)
 
-  pub last-there : (r : SignedNumber) → r ≡ signed_number_of (part (at + 1) (length line) line) → r ≡ last_signed line at
+  pub last-there : (r : Option ℤ) → r ≡ signed_number_of (part (at + 1) (length line) line) → r ≡ last_signed line at
   unfolding last_signed
   last-there r e = e ∙ ap signed_number_of (take_all (length line - (at + 1)) (drop (at + 1) line) (let h = length-drop (at + 1) line in omega arith))
 
-pub ruleset signs = (minus-fits, with-minus, without, sign-of-none, signed-empty, signed-minus, signed-plus, no_last, last-there)
+pub ruleset signs = (with-minus, without, sign-of-none, signed-empty, signed-minus, signed-plus, no_last, last-there)

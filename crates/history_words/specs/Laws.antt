@@ -1,18 +1,18 @@
 -- What loops over the bytes of a word use of its meaning. Assumes nothing.
-use Rattle.std.specs.Prelude.{ℕ, suc, ◌+◌, ◌*◌, ◌-◌, ◌≤◌, ◌<◌, ◌≡◌, refl, Bool, true, false, ◌&&◌, cond, List, [], ◌∷◌, leb, eqb, length, get_or, take, drop}
+use Rattle.std.specs.Prelude.{ℕ, suc, ◌+◌, ◌*◌, ◌-◌, ◌≤◌, ◌<◌, ◌≡◌, refl, Bool, true, false, ◌&&◌, cond, List, [], ◌∷◌, leb, eqb, length, get_or, take, drop, Option, Some, None}
 use Rattle.std.proofs.Math.Path.{sym}
 use Rattle.std.proofs.Common.{ap, ◌∙◌, arith, add-one, drop_of_length-le, drop-cons}
-use borrow.Author.Tests.{le-leb, lt-leb, eq-eqb, ne_eqb}
+use borrow.Author.Tests.{le-leb, lt-leb, leb-true, eq-eqb, ne_eqb}
+use Rattle.std.proofs.lemmas.Bool.{and_parts}
 use Rattle.std.proofs.Math.Seq.{take-length}
 use Rattle.std.proofs.lemmas.List.{get_or-take, length-take-le}
+use lib.Pointwise.{pointwise}
 use Rattle.names.specs.Names.{is_digit}
-use Rattle.history_words.specs.declared.Number.{Number}
-use Rattle.history_words.specs.declared.Number.TheVariants as number
 use Rattle.history_words.specs.Words.{sameb, digits_from, number_of, index_of, index_after, slice, word_end}
 
 -- ---- the digits from place i on, with those before worth v
 
-digits-cons : (v b : ℕ) (bs : List ℕ) (d : Bool) → is_digit b && leb (10 * v + b - 48) 4294967295 ≡ d → digits_from v (b ∷ bs) ≡ cond d (digits_from (10 * v + b - 48) bs) number.Bad
+digits-cons : (v b : ℕ) (bs : List ℕ) (d : Bool) → is_digit b && leb (10 * v + b - 48) 4294967295 ≡ d → digits_from v (b ∷ bs) ≡ cond d (digits_from (10 * v + b - 48) bs) None
 unfolding digits_from
 digits-cons v b bs d e = rw e refl
 
@@ -20,55 +20,34 @@ module _ (w : List ℕ) (v i : ℕ) (whole : digits_from v (drop i w) ≡ digits
   abbrev here : ℕ
   here = get_or w i 0
 
-  at_place : (d : Bool) → i < length w → is_digit here && leb (10 * v + here - 48) 4294967295 ≡ d → digits_from 0 w ≡ cond d (digits_from (10 * v + here - 48) (drop (suc i) w)) number.Bad
+  at_place : (d : Bool) → i < length w → is_digit here && leb (10 * v + here - 48) 4294967295 ≡ d → digits_from 0 w ≡ cond d (digits_from (10 * v + here - 48) (drop (suc i) w)) None
   at_place d l e = sym whole ∙ ap (digits_from v) (drop-cons w i 0 l) ∙ digits-cons v here (drop (suc i) w) d e
 
-  pub digit_low : i < length w → here < 48 → number.Bad ≡ digits_from 0 w
-  digit_low l h = sym (at_place false l (simp (lt-leb 48 here h)))
+  pub no-digit : i < length w → is_digit here ≡ false → None ≡ digits_from 0 w
+  no-digit l h = sym (at_place false l (simp h))
 
-  pub digit-high : i < length w → 57 < here → number.Bad ≡ digits_from 0 w
-  digit-high l h = sym (at_place false l (simp (le-leb 48 here (omega (arith, h)), lt-leb here 57 h)))
+  module _ (l : i < length w) (h : is_digit here ≡ true) where
+    next-is : 10 * v + here - 48 ≡ v * 10 + (here - 48)
+    next-is = let low = leb-true 48 here (and_parts (leb 48 here) (leb here 57) h).0 in omega (arith, low)
 
-  pub digits-large : i < length w → 48 ≤ here → here ≤ 57 → 4294967295 < 10 * v + here - 48 → number.Bad ≡ digits_from 0 w
-  digits-large l h k m = sym (at_place false l (simp (le-leb 48 here h, le-leb here 57 k, lt-leb (10 * v + here - 48) 4294967295 m)))
+    pub digits-large : 4294967296 ≤ v * 10 + (here - 48) → None ≡ digits_from 0 w
+    digits-large m = sym (at_place false l (simp (h, lt-leb (10 * v + here - 48) 4294967295 (omega (arith, next-is, m)))))
 
-  pub digits-on : i < length w → 48 ≤ here → here ≤ 57 → 10 * v + here - 48 ≤ 4294967295 → digits_from (10 * v + here - 48) (drop (i + 1) w) ≡ digits_from 0 w
-  digits-on l h k m = rw add-one (sym (at_place true l (simp (le-leb 48 here h, le-leb here 57 k, le-leb (10 * v + here - 48) 4294967295 m))))
+    pub digits-on : (n : ℕ) → n < 4294967296 → n ≡ v * 10 + (here - 48) → digits_from n (drop (i + 1) w) ≡ digits_from 0 w
+    digits-on n m e = rw (e, ← next-is, add-one) (sym (at_place true l (simp (h, le-leb (10 * v + here - 48) 4294967295 (omega (arith, next-is, m, e))))))
 
-  pub digits-end : length w ≤ i → number.Is v ≡ digits_from 0 w
+  pub digits-end : length w ≤ i → Some v ≡ digits_from 0 w
   unfolding digits_from
   digits-end l = sym (ap (digits_from v) (drop_of_length-le w l)) ∙ whole
 
--- ---- two words from place i on
+-- ---- two words, by the test that the slices' == makes
 
-same-cons : (a b : ℕ) (l m : List ℕ) (d : Bool) → eqb a b ≡ d → sameb (a ∷ l) (b ∷ m) ≡ d && sameb l m
+pub same-bytes : (l m : List ℕ) → pointwise eqb l m ≡ sameb l m
 unfolding sameb
-same-cons a b l m d e = rw e refl
-
-pub same_length : (l m : List ℕ) → (length l ≡ length m → ⊥) → false ≡ sameb l m
-unfolding sameb
-same_length [] [] n = absurd (n refl)
-same_length [] (b ∷ m) n = refl
-same_length (a ∷ l) [] n = refl
-same_length (a ∷ l) (b ∷ m) n = step (eqb a b) (same_length l m (λ e. n (ap suc e)))
-  where
-    step : (x : Bool) → false ≡ sameb l m → false ≡ x && sameb l m
-    step true e = e
-    step false e = refl
-
-module _ (w o : List ℕ) (i : ℕ) (long : length w ≡ length o) (whole : sameb (drop i w) (drop i o) ≡ sameb w o) where
-  both : (d : Bool) → i < length w → eqb (get_or w i 0) (get_or o i 0) ≡ d → sameb w o ≡ d && sameb (drop (suc i) w) (drop (suc i) o)
-  both d l e = sym whole ∙ (λ k. sameb (drop-cons w i 0 l k) (drop-cons o i 0 (omega arith) k)) ∙ same-cons (get_or w i 0) (get_or o i 0) (drop (suc i) w) (drop (suc i) o) d e
-
-  pub same-differ : i < length w → (get_or w i 0 ≡ get_or o i 0 → ⊥) → false ≡ sameb w o
-  same-differ l n = sym (both false l (ne_eqb (get_or w i 0) (get_or o i 0) n))
-
-  pub same-on : i < length w → get_or w i 0 ≡ get_or o i 0 → sameb (drop (i + 1) w) (drop (i + 1) o) ≡ sameb w o
-  same-on l e = rw add-one (sym (both true l (eq-eqb (get_or w i 0) (get_or o i 0) e)))
-
-  pub same_end : length w ≤ i → true ≡ sameb w o
-  unfolding sameb
-  same_end l = sym (λ k. sameb (drop_of_length-le w l k) (drop_of_length-le o {i = i} (omega arith) k)) ∙ whole
+same-bytes [] [] = refl
+same-bytes [] (b ∷ m) = refl
+same-bytes (a ∷ l) [] = refl
+same-bytes (a ∷ l) (b ∷ m) = ap (λ x. eqb a b && x) (same-bytes l m)
 
 -- ---- the first byte b from place i on, before the place `to`
 
@@ -118,15 +97,15 @@ word_after line from r e = omega arith
 -- ---- numbers
 
 module _ (w : List ℕ) where
-  pub no-digits : length w ≡ 0 → number.Bad ≡ number_of w
+  pub no-digits : length w ≡ 0 → None ≡ number_of w
   unfolding number_of
   no-digits e = simp (lt-leb 1 (length w) (omega arith))
 
-  pub many-digits : 10 < length w → number.Bad ≡ number_of w
+  pub many-digits : 10 < length w → None ≡ number_of w
   unfolding number_of
   many-digits l = simp (le-leb 1 (length w) (omega (arith, l)), lt-leb (length w) 10 l)
 
-  pub some-digits : (r : Number) → r ≡ digits_from 0 w → (length w ≡ 0 → ⊥) → length w ≤ 10 → r ≡ number_of w
+  pub some-digits : (r : Option ℕ) → r ≡ digits_from 0 w → (length w ≡ 0 → ⊥) → length w ≤ 10 → r ≡ number_of w
   unfolding number_of
   some-digits r e n l = e ∙ sym (simp (le-leb 1 (length w) (positive (length w) n), le-leb (length w) 10 l))
     where

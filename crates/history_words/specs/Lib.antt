@@ -2,3 +2,4 @@
 pub mod Words
 pub mod Laws
 pub mod Reading
+pub mod Steps

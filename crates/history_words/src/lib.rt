@@ -2,27 +2,17 @@
 #![tactic(auto)]
 
 ghost use Rattle.std.specs.Prelude.{◌≡◌, ◌≤◌, length};
-ghost use Rattle.history_words.specs.Words.{sameb, word_end, digits_from, number_of, number_at, numbers_at, after_one, after_two, after_three};
+ghost use Rattle.history_words.specs.Words.{word_end, digits_from, number_of, number_at, numbers_at};
 
 pub mod scan; // the first place of a byte
 pub mod signed; // signed numbers
 
 // A number has at most ten digits.
-const MOST_DIGITS: usize = 10;
+pub const MOST_DIGITS: usize = 10;
 
-// A word read as a number.
-#[derive(Clone, Copy)]
-pub enum Number {
-    Is(u32),
-    Bad,
-}
+const BASE: u32 = 10;
 
-// The number that follows a place of the line, and the place where its word ends.
-#[derive(Clone, Copy)]
-pub enum NumberAt {
-    Is(u32, usize),
-    Bad,
-}
+const SPACE: u8 = b' ';
 
 // All numbers that follow a place of the line, up to its end.
 #[derive(Clone, Copy)]
@@ -32,24 +22,6 @@ pub enum Numbers {
     Two(u32, u32),
     Three(u32, u32, u32),
     Four(u32, u32, u32, u32),
-    Bad,
-}
-
-// Whether two words have the same bytes.
-pub fn same(word: &[u8], other: &[u8]) -> bool
-    ensures { result ≡ sameb word.now other.now }
-{
-    if word.len() != other.len() {
-        return false;
-    }
-    let mut i = 0;
-    while i < word.len() {
-        if word[i] != other[i] {
-            return false;
-        }
-        i += 1;
-    }
-    true
 }
 
 // The place of the first space from a place on, or of the line's end.
@@ -58,117 +30,72 @@ pub fn word_end(line: &[u8], from: usize) -> usize
     ensures value { result ≡ word_end line.now from }
     ensures lower_bound { (from ≤ result) × (result ≤ length line.now) }
 {
-    scan::find(line, from, line.len(), 32)
+    scan::find(line, from, line.len(), SPACE)
 }
 
 // The number that the digits make: "0 to 4294967295".
-fn digits(word: &[u8]) -> Number
+fn digits(word: &[u8]) -> Option<u32>
     ensures { result ≡ digits_from 0 word.now }
 {
     let mut value: u32 = 0;
-    let mut i = 0;
-    while i < word.len() {
-        let byte = word[i];
-        if byte < 48 {
-            return Number::Bad;
+    for byte in word {
+        if !byte.is_ascii_digit() {
+            return None;
         }
-        if 57 < byte {
-            return Number::Bad;
-        }
-        let next = 10 * value as u64 + byte as u64 - 48;
-        if 4294967295 < next {
-            return Number::Bad;
-        }
-        value = next as u32;
-        i += 1;
+        let digit = u32::from(*byte - b'0');
+        value = value.checked_mul(BASE)?.checked_add(digit)?;
     }
-    Number::Is(value)
+    Some(value)
 }
 
 // "at most ten digits; leading zeros may stand"
-pub fn number_of(word: &[u8]) -> Number
+pub fn number_of(word: &[u8]) -> Option<u32>
     ensures { result ≡ number_of word.now }
 {
-    if word.len() == 0 {
-        return Number::Bad;
+    if word.is_empty() {
+        return None;
     }
     if MOST_DIGITS < word.len() {
-        return Number::Bad;
+        return None;
     }
     digits(word)
 }
 
-// The number after the space at a place.
-pub fn number_at(line: &[u8], at: usize) -> NumberAt
+// The number after the space at a place, and the place where its word ends.
+pub fn number_at(line: &[u8], at: usize) -> Option<(u32, usize)>
     ensures { result ≡ number_at line.now at }
 {
     if line.len() <= at {
-        return NumberAt::Bad;
+        return None;
     }
     let from = at + 1;
     let to = word_end(line, from);
-    let read = number_of(&line[from..to]);
-    match read {
-        Number::Is(n) => NumberAt::Is(n, to),
-        Number::Bad => NumberAt::Bad,
-    }
+    let number = number_of(&line[from..to])?;
+    Some((number, to))
 }
 
 // The numbers from a place on, up to the line's end.
-pub fn numbers_at(line: &[u8], at: usize) -> Numbers
+pub fn numbers_at(line: &[u8], at: usize) -> Option<Numbers>
     ensures { result ≡ numbers_at line.now at }
 {
     if line.len() <= at {
-        return Numbers::Zero;
+        return Some(Numbers::Zero);
     }
-    let found = number_at(line, at);
-    match found {
-        NumberAt::Is(first, to) => after_one(line, to, first),
-        NumberAt::Bad => Numbers::Bad,
+    let (first, after_first) = number_at(line, at)?;
+    if line.len() <= after_first {
+        return Some(Numbers::One(first));
     }
-}
-
-// The same with one number read already, with two, with three.
-fn after_one(line: &[u8], at: usize, first: u32) -> Numbers
-    ensures { result ≡ after_one line.now at first }
-{
-    if line.len() <= at {
-        return Numbers::One(first);
+    let (second, after_second) = number_at(line, after_first)?;
+    if line.len() <= after_second {
+        return Some(Numbers::Two(first, second));
     }
-    let found = number_at(line, at);
-    match found {
-        NumberAt::Is(second, to) => after_two(line, to, first, second),
-        NumberAt::Bad => Numbers::Bad,
+    let (third, after_third) = number_at(line, after_second)?;
+    if line.len() <= after_third {
+        return Some(Numbers::Three(first, second, third));
     }
-}
-
-fn after_two(line: &[u8], at: usize, first: u32, second: u32) -> Numbers
-    ensures { result ≡ after_two line.now at first second }
-{
-    if line.len() <= at {
-        return Numbers::Two(first, second);
+    let (fourth, after_fourth) = number_at(line, after_third)?;
+    if after_fourth < line.len() {
+        return None;
     }
-    let found = number_at(line, at);
-    match found {
-        NumberAt::Is(third, to) => after_three(line, to, first, second, third),
-        NumberAt::Bad => Numbers::Bad,
-    }
-}
-
-fn after_three(line: &[u8], at: usize, first: u32, second: u32, third: u32) -> Numbers
-    ensures { result ≡ after_three line.now at first second third }
-{
-    if line.len() <= at {
-        return Numbers::Three(first, second, third);
-    }
-    let found = number_at(line, at);
-    match found {
-        NumberAt::Is(fourth, to) => {
-            if to < line.len() {
-                return Numbers::Bad;
-            }
-            Numbers::Four(first, second, third, fourth)
-        }
-        NumberAt::Bad => Numbers::Bad,
-    }
+    Some(Numbers::Four(first, second, third, fourth))
 }

@@ -27,7 +27,11 @@ mid-is a e n l q = let k : e - a ≡ n = omega arith in ap (λ (y : ℕ). take y
 pub pieces-in : (m p : ℕ) → p < places → 1 + m * p + m ≤ 1 + places * m
 pieces-in m p l = omega (arith, mul-le-mul_left {m = suc p} {n = places} m l, mul-suc m p, mul_comm m places)
 
--- where the next one starts, as the code counts
+-- where one starts, as the code counts
+pub piece-at : (m p cells : ℕ) → cells ≡ m → 1 + cells * p ≡ 1 + m * p
+piece-at m p cells e = ap (λ (k : ℕ). 1 + k * p) e
+
+-- and the next one
 pub piece-next : (m p at cells : ℕ) → cells ≡ m → at ≡ 1 + m * p → (at + cells ≡ 1 + m * p + m) × (at + cells ≡ 1 + m * (p + 1))
 piece-next m p at cells e q =
     let more : m * (p + 1) ≡ m * p + m = ap (λ (k : ℕ). m * k) (add-one p) ∙ mul-suc m p ∙ omega arith in

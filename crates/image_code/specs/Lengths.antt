@@ -1,5 +1,5 @@
 -- How many cells the head and a record have in an image of a form, and a record in the tables. Assumes nothing.
-use Rattle.std.specs.Prelude.{ℕ, ◌+◌, ◌≤◌, ◌≡◌, List, length, take}
+use Rattle.std.specs.Prelude.{ℕ, ◌+◌, ◌≡◌, List, length}
 use Rattle.std.proofs.Common.{◌∙◌, arith, length-take-le}
 use Rattle.packing_rows.specs.Cells.{length-cells_of}
 use Rattle.packing_rows.specs.Pack.{unpacked-length}

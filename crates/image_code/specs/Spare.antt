@@ -1,5 +1,5 @@
 -- The zeros at a record's end: in form 2 the low half of its last cell, in form 1 none. Assumes nothing.
-use Rattle.std.specs.Prelude.{ℕ, ◌+◌, ◌*◌, ◌/◌, ◌%◌, ◌^◌, ◌<◌, ◌≡◌, refl, true, List, eqb, length, get_or, take}
+use Rattle.std.specs.Prelude.{ℕ, ◌+◌, ◌*◌, ◌%◌, ◌<◌, ◌≡◌, refl, true, List, eqb, length, get_or, take}
 use Rattle.std.proofs.Common.{sym, ap, ◌∙◌, arith, div-one, lit<, take_all}
 use Rattle.std.proofs.Math.Bool.{true-and}
 use Rattle.combine.specs.Below.{all_below}

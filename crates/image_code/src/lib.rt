@@ -48,11 +48,12 @@ fn pack_record(form: Form, values: &[u32], widths: &[u32], out: &mut [u32])
     ensures { out.new ≡ packed_record (form_of form) values.now }
 {
     let mut row = [0u32; widths::MOST];
-    combine::copy_cells(values, &mut row[0..RECORD_LENGTH]);
+    row[..RECORD_LENGTH].copy_from_slice(values);
     packing_rows::pack(out, widths, &row[0..widths::count(form)]);
 }
 
-// The same for a record that may be unused, where its cells of the image are zero: "an unused record is all zero", and so they stay.
+// The same for a record that may be unused, where its cells of the image are zero: "an unused record is all zero", and so
+// they stay.
 fn put_record(form: Form, values: &[u32], widths: &[u32], out: &mut [u32])
     requires { (length values.now ≡ record_length) × (out.old ≡ replicate (form_of form).cells 0) × Writable (form_of form) values.now × (widths.now ≡ row_widths (form_of form)) }
     ensures { out.new ≡ packed_record (form_of form) values.now }
@@ -63,8 +64,8 @@ fn put_record(form: Form, values: &[u32], widths: &[u32], out: &mut [u32])
     pack_record(form, values, widths, out);
 }
 
-// Whether a record's cells of the image are all zero: where it is used the first one is not, and no other is looked at. The last one is looked at by
-// itself, so that the others are a row of one length in both forms.
+// Whether a record's cells of the image are all zero: where it is used the first one is not, and no other is looked at.
+// The last one is looked at by itself, so that the others are a row of one length in both forms.
 fn is_blank(cells: &[u32]) -> bool
     requires { (fewest_cells ≤ length cells.now) × (length cells.now ≤ fewest_cells + 1) }
     ensures { result ≡ all_below (length cells.now) (λ k. eqb (get_or cells.now k 0) 0) }
@@ -75,10 +76,11 @@ fn is_blank(cells: &[u32]) -> bool
     if cells[cells.len() - 1] != 0 {
         return false;
     }
-    combine::all_zero(&cells[0..OLD_RECORD_CELLS])
+    combine::all_zero(&cells[..OLD_RECORD_CELLS])
 }
 
-// The cells of the record that its cells of the image say, by the widths of its fields, where all was zero: so they stay for cells that are.
+// The cells of the record that its cells of the image say, by the widths of its fields, where all was zero: so they stay
+// for cells that are.
 fn take_record(cells: &[u32], fields: &[u32], out: &mut [u32])
     requires fewest_cells_in_bounds { (fewest_cells ≤ length cells.now) × (length cells.now ≤ fewest_cells + 1) }
     requires narrow { Narrow fields.now × (out.old ≡ replicate (length fields.now) 0) }
@@ -98,19 +100,17 @@ fn put_records(form: Form, tables: &[u32], image: &mut [u32])
     ensures { image.new ≡ take 1 image.old ++ joined (tab places (record_image (form_of form) tables.now)) }
 {
     let all = widths::row(form);
-    let widths = &all[0..widths::count(form)];
+    let widths = &all[..widths::count(form)];
     let cells = form.record_cells();
-    let mut p = 0;
-    let mut at = 1;
-    while p < PLACES {
+    // By place, and not by `chunks_exact_mut`: once that is through, a proof knows nothing of the cells.
+    for p in 0..PLACES {
+        let at = 1 + cells * p;
         put_record(
             form,
             &tables[RECORDS_START + RECORD_LENGTH * p..SECOND_RECORD + RECORD_LENGTH * p],
             widths,
             &mut image[at..at + cells],
         );
-        at += cells;
-        p += 1;
     }
 }
 
@@ -120,18 +120,15 @@ fn take_records(form: Form, image: &[u32], tables: &mut [u32])
     ensures { tables.new ≡ take 1 tables.old ++ (joined (tab places (record_from (form_of form) image.now)) ++ drop openings_start tables.old) }
 {
     let all = widths::row(form);
-    let fields = &all[0..RECORD_LENGTH];
+    let fields = &all[..RECORD_LENGTH];
     let cells = form.record_cells();
-    let mut p = 0;
-    let mut at = 1;
-    while p < PLACES {
+    for p in 0..PLACES {
+        let at = 1 + cells * p;
         take_record(
             &image[at..at + cells],
             fields,
             &mut tables[RECORDS_START + RECORD_LENGTH * p..SECOND_RECORD + RECORD_LENGTH * p],
         );
-        at += cells;
-        p += 1;
     }
 }
 
@@ -140,7 +137,7 @@ pub fn put_image(form: Form, tables: &[u32], image: &mut [u32])
     requires { Ranged tables.now × (reachesb (form_of form) tables.now ≡ true) × (length image.old ≡ image_length (form_of form)) }
     ensures { image.new ≡ image_of (form_of form) tables.now }
 {
-    combine::fill_cells(image, 0);
+    image.fill(0);
     put_head(form, tables[0], &mut image[0..1]);
     put_records(form, tables, image);
 }

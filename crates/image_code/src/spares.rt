@@ -14,12 +14,10 @@ fn ends_zero(image: &[u32]) -> bool
     requires { length image.now ≡ image_length form2 }
     ensures { result ≡ sparesb form2 image.now }
 {
-    let mut p = 0;
-    while p < PLACES {
+    for p in 0..PLACES {
         if image[RECORD_CELLS + RECORD_CELLS * p] % SPARE_LIMIT != 0 {
             return false;
         }
-        p += 1;
     }
     true
 }

@@ -13,8 +13,8 @@ pub const HEAD: [u32; 3] = [8, 11, 13];
 // A record's fields, and the zeros at its end.
 pub const MOST: usize = RECORD_LENGTH + 1;
 
-// "used 1, name 12 x 6, owner 3, private 1, species 3", "begin and end of 32 bits each", "then 32 segment numbers of 10 bits by rising stretch",
-// "16 zero bits at a record's end"
+// "used 1, name 12 x 6, owner 3, private 1, species 3", "begin and end of 32 bits each", "then 32 segment numbers of 10
+// bits by rising stretch", "16 zero bits at a record's end"
 const ROW: [u32; MOST] = [
     1, // used
     6, // name

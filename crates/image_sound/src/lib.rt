@@ -8,7 +8,8 @@ ghost use Rattle.image.specs.Forms.{form_of};
 
 use image::Form;
 
-// "Sound: form 1; ..": judged beside a store of so many cells. The image is decoded beside, where all was zero, and a sound one has its tables there.
+// "Sound: form 1; ..": judged beside a store of so many cells. The image is decoded beside, where all was zero, and a
+// sound one has its tables there.
 pub fn is_sound(form: Form, image: &[u32], cells: usize, beside: &mut [u32]) -> bool
     requires { beside.old ≡ replicate tables_length 0 }
     ensures value { result ≡ imageb (form_of form) cells image.now }
@@ -17,11 +18,11 @@ pub fn is_sound(form: Form, image: &[u32], cells: usize, beside: &mut [u32]) -> 
     if image.len() != form.image_length() {
         return false;
     }
-    let head = image_code::take_head(&image[0..1]);
-    if head[0] != form.number() {
+    let [number, _, zeros] = image_code::take_head(&image[0..1]);
+    if number != form.number() {
         return false;
     }
-    if head[2] != 0 {
+    if zeros != 0 {
         return false;
     }
     if !image_code::spares::all_zero(form, image) {

@@ -1,38 +1,47 @@
--- The turns of the loops over pairs and rows. Assumes nothing.
+-- The turns of the loops over pairs. Assumes nothing.
 use Prim.Native.Nat.{ℕ, suc, ◌+◌, ◌-◌, ◌*◌, ◌≤◌, ◌<◌}
 use native.Mathlib.Omega.{arith}
 use native.Mathlib.Decide.{ℕ_discrete}
-use native.Mathlib.Nat.{not-suc-le-zero}
 use mathlib.Core.Path.{◌≡◌, refl, sym, ap, ◌∙◌, subst}
 use mathlib.Core.Bool.{Bool, cond}
-use mathlib.Core.List.{List, [], ◌∷◌, map}
+use mathlib.Core.List.{List, [], ◌∷◌, ◌++◌}
 use lib.Dec.{eqb}
-use lib.ListN.{length, get_or, drop, set, length-set, length-drop, length-map}
-use lib.Seq.{drop-cons, get_or-set_same, get_or-set_other, ext_get_or}
+use lib.ListN.{length, get_or, drop, set, length-set, length-drop, length-append, get_or-append}
+use Rattle.std.proofs.Common.{get_or-append-add}
+use Rattle.placing.specs.Sizes.{segment_cells}
+use lib.Seq.{drop-cons, get_or-set_same, get_or-set_other}
 use borrow.Author.Tests.{eq-eqb, ne_eqb}
 use Rattle.placing.specs.Placing.{segment}
 use Rattle.store.specs.Store.{copied}
 use Rattle.segments.specs.Moves.{exchange, moved_cells}
-use Rattle.proof_moves.specs.Renumbered.{map_at}
 
 -- ---- copies
 
-pub copy-turn : (s plan : List ℕ) (i : ℕ) → i + 2 ≤ length plan
-    → moved_cells (copied s (segment (get_or plan i 0)) (segment (get_or plan (i + 1) 0))) (drop (i + 2) plan) ≡ moved_cells s (drop i plan)
-copy-turn s plan i l =
-    let a : i + 1 ≡ suc i = omega arith in
-    let b : i + 2 ≡ suc (suc i) = omega arith in
-    (λ j. moved_cells (copied s (segment (get_or plan i 0)) (segment (get_or plan (a j) 0))) (drop (b j) plan))
-    ∙ ap (λ (r : List ℕ). moved_cells s (get_or plan i 0 ∷ r)) (sym (drop-cons plan (suc i) 0 (omega arith)))
-    ∙ ap (moved_cells s) (sym (drop-cons plan i 0 (omega arith)))
+-- each segment of the plan lies in a store of n cells
+abbrev pub InStore : ℕ → List ℕ → Type 0
+InStore n plan = (k : ℕ) → k < length plan → get_or plan k 0 * segment_cells + segment_cells ≤ n
 
-cells-short : (s l : List ℕ) → length l ≤ 1 → moved_cells s l ≡ s
+module _ (n : ℕ) (pair rest plan : List ℕ) (e : plan ≡ pair ++ rest) (h : InStore n plan) where
+  long : length plan ≡ length pair + length rest
+  long = ap length e ∙ length-append pair rest
+
+  pub in-pair : InStore n pair
+  in-pair k l = omega (arith, h k (omega (arith, long)), ap (λ (x : List ℕ). get_or x k 0) e ∙ get_or-append pair rest 0 k l)
+
+  pub in-rest : InStore n rest
+  in-rest k l = omega (arith, h (length pair + k) (omega (arith, long)), ap (λ (x : List ℕ). get_or x (length pair + k) 0) e ∙ get_or-append-add pair rest k 0)
+
+pub cells-short : (s l : List ℕ) → length l < 2 → moved_cells s l ≡ s
 cells-short s [] h = refl
 cells-short s (a ∷ []) h = refl
 cells-short s (a ∷ b ∷ l) h = absurd (let z : ⊥ = omega arith in z)
 
-pub copy-end : (s plan : List ℕ) (i : ℕ) → length plan ≤ i + 1 → moved_cells s (drop i plan) ≡ s
-copy-end s plan i h = cells-short s (drop i plan) (let e = length-drop i plan in omega arith)
+-- the pair in front is carried out
+pub copy-turn : (s pair rest : List ℕ) → length pair ≡ 2 → moved_cells (copied s (segment (get_or pair 0 0)) (segment (get_or pair 1 0))) rest ≡ moved_cells s (pair ++ rest)
+copy-turn s [] rest e = absurd (let z : ⊥ = omega arith in z)
+copy-turn s (a ∷ []) rest e = absurd (let z : ⊥ = omega arith in z)
+copy-turn s (a ∷ b ∷ []) rest e = refl
+copy-turn s (a ∷ b ∷ c ∷ l) rest e = absurd (let z : ⊥ = omega arith in z)
 
 -- ---- numbers that change places
 
@@ -91,41 +100,3 @@ exchange-down plan numbers p l size fits low h =
     let e : p ≡ p - 1 + 1 = omega arith in
     exchange-turn plan numbers (p - 1) size (omega arith) (low (2 * (p - 1)) (omega arith)) (low (2 * (p - 1) + 1) (omega arith))
     (subst (λ (k : ℕ). Maps numbers (drop (2 * k) plan)) e h)
-
--- each number itself, up to k
-abbrev pub Itself : ℕ → List ℕ → Type 0
-Itself k numbers = (g : ℕ) → g < k → get_or numbers g 0 ≡ g
-
-pub itself-turn : (numbers : List ℕ) (k : ℕ) → k < length numbers → Itself k numbers → Itself (k + 1) (set numbers k k)
-itself-turn numbers k l h g lg = go (ℕ_discrete g k)
-  where
-    go : Dec (g ≡ k) → get_or (set numbers k k) g 0 ≡ g
-    go (yes e) = ap (λ (x : ℕ). get_or (set numbers k k) x 0) e ∙ get_or-set_same numbers k k 0 l ∙ sym e
-    go (no d) = get_or-set_other numbers k g k 0 d ∙ h g (omega (arith, d))
-
--- ---- a row of which the first k numbers are replaced
-
-pub record RowTo (f : ℕ → ℕ) (first : List ℕ) (k : ℕ) (row : List ℕ) : Type 0 where
-  pub long : length row ≡ length first
-  pub done : (j : ℕ) → j < k → get_or row j 0 ≡ f (get_or first j 0)
-  pub rest : (j : ℕ) → k ≤ j → get_or row j 0 ≡ get_or first j 0
-
-module _ (f : ℕ → ℕ) (first : List ℕ) where
-  pub row-start : RowTo f first 0 first
-  row-start = record { long = refl; done = λ j l. absurd (not-suc-le-zero l); rest = λ j l. refl }
-
-  pub row-turn : (k : ℕ) (row : List ℕ) → k < length first → RowTo f first k row → RowTo f first (k + 1) (set row k (f (get_or row k 0)))
-  row-turn k row l w = record {
-    long = length-set row k (f (get_or row k 0)) ∙ w.long;
-    done = λ j lj. go j lj (ℕ_discrete j k);
-    rest = λ j lj. get_or-set_other row k j (f (get_or row k 0)) 0 (λ e. omega arith) ∙ w.rest j (omega arith);
-  }
-    where
-      go : (j : ℕ) → j < k + 1 → Dec (j ≡ k) → get_or (set row k (f (get_or row k 0))) j 0 ≡ f (get_or first j 0)
-      go j lj (yes e) =
-          ap (λ (x : ℕ). get_or (set row k (f (get_or row k 0))) x 0) e ∙ get_or-set_same row k (f (get_or row k 0)) 0 (omega (arith, w.long))
-          ∙ ap f (w.rest k (omega arith) ∙ ap (λ (x : ℕ). get_or first x 0) (sym e))
-      go j lj (no d) = get_or-set_other row k j (f (get_or row k 0)) 0 d ∙ w.done j (omega (arith, d))
-
-  pub row_done : (k : ℕ) (row : List ℕ) → length first ≤ k → RowTo f first k row → row ≡ map f first
-  row_done k row l w = ext_get_or 0 row (map f first) (w.long ∙ sym (length-map first f)) (λ j lj. w.done j (omega (arith, w.long)) ∙ sym (map_at f first j (omega (arith, w.long))))

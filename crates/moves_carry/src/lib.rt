@@ -14,43 +14,34 @@ use free_count::MARKS;
 use placing::{PLACES, RECORD_LENGTH, RECORDS_START, Segment};
 use tables::layout;
 
-// The new number of each segment.
-const NUMBERS: usize = MARKS;
-
 fn copy_pairs(store: &mut [u32], plan: &[u32])
     requires { (k : ℕ) → k < length plan.now → get_or plan.now k 0 * segment_cells + segment_cells ≤ length store.old }
     ensures { store.new ≡ moved_cells store.old plan.now }
 {
-    let mut at: usize = 0;
-    while 2 <= plan.len() - at {
-        let from = Segment::of(plan[at]);
-        let to = Segment::of(plan[at + 1]);
+    for pair in plan.chunks_exact(2) {
+        let from = Segment::of(pair[0]);
+        let to = Segment::of(pair[1]);
         store::copy_segment(store, from, to);
-        at += 2;
     }
 }
 
-// At first each number is itself.
-fn identity(numbers: &mut [u32; NUMBERS])
+// The new number of each segment: at first each is itself.
+fn identity(numbers: &mut [u32; MARKS])
     requires { length numbers.old ≡ most_segments }
     ensures size { length numbers.new ≡ most_segments }
     ensures by_index { (g : ℕ) → g < most_segments → get_or numbers.new g 0 ≡ g }
 {
-    let mut number: usize = 0;
-    while number < NUMBERS {
-        numbers[number] = number as u32;
-        number += 1;
+    for (number, cell) in numbers.iter_mut().enumerate() {
+        *cell = number as u32;
     }
 }
 
 // Then those of each pair change places: from the last pair to the first, as that counts which is named first.
-fn exchange_pairs(plan: &[u32], numbers: &mut [u32; NUMBERS])
+fn exchange_pairs(plan: &[u32], numbers: &mut [u32; MARKS])
     requires { (length numbers.old ≡ most_segments) × ((k : ℕ) → k < length plan.now → get_or plan.now k 0 < most_segments) × ((g : ℕ) → g < most_segments → get_or numbers.old g 0 ≡ g) }
     ensures { (g : ℕ) → g < most_segments → get_or numbers.new g 0 ≡ exchange plan.now g }
 {
-    let mut pair = plan.len() / 2;
-    while 0 < pair {
-        pair -= 1;
+    for pair in (0..plan.len() / 2).rev() {
         let from = plan[2 * pair];
         let to = plan[2 * pair + 1];
         numbers[to as usize] = from;
@@ -58,20 +49,17 @@ fn exchange_pairs(plan: &[u32], numbers: &mut [u32; NUMBERS])
     }
 }
 
-fn renumber_row(row: &mut [u32], numbers: &[u32; NUMBERS])
+fn renumber_row(row: &mut [u32], numbers: &[u32; MARKS])
     requires { (k : ℕ) → k < length row.old → get_or row.old k 0 < most_segments }
     ensures { row.new ≡ map (mapped numbers.now) row.old }
 {
-    let mut k: usize = 0;
-    while k < row.len() {
-        let number = row[k];
-        row[k] = numbers[number as usize];
-        k += 1;
+    for cell in row.iter_mut() {
+        *cell = numbers[*cell as usize];
     }
 }
 
 // Only the places that are held: one that is not used holds none.
-fn renumber_at(tables: &mut [u32], place: usize, numbers: &[u32; NUMBERS])
+fn renumber_at(tables: &mut [u32], place: usize, numbers: &[u32; MARKS])
     requires { (length tables.old ≡ tables_length) × (place < places) × (segments_in tables.old ≤ most_segments) × (recordb (segments_in tables.old) (record_at tables.old place) ≡ true) }
     ensures { tables.new ≡ renumbered_at (mapped numbers.now) place tables.old }
 {
@@ -87,14 +75,12 @@ fn renumber_at(tables: &mut [u32], place: usize, numbers: &[u32; NUMBERS])
     renumber_row(&mut tables[start..beyond], numbers);
 }
 
-fn renumber_records(tables: &mut [u32], numbers: &[u32; NUMBERS])
+fn renumber_records(tables: &mut [u32], numbers: &[u32; MARKS])
     requires { Ranged tables.old }
     ensures { tables.new ≡ renumbered_first (mapped numbers.now) places tables.old }
 {
-    let mut place: usize = 0;
-    while place < PLACES {
+    for place in 0..PLACES {
         renumber_at(tables, place, numbers);
-        place += 1;
     }
 }
 
@@ -105,7 +91,7 @@ pub fn carry(store: &mut [u32], tables: &mut [u32], plan: &[u32])
     ensures tables_after { tables.new ≡ moved_tables plan.now tables.old }
 {
     copy_pairs(store, plan);
-    let mut numbers = [0u32; NUMBERS];
+    let mut numbers = [0u32; MARKS];
     identity(&mut numbers);
     exchange_pairs(plan, &mut numbers);
     renumber_records(tables, &numbers);

@@ -53,7 +53,8 @@ module _ (name : List ℕ) (count : ℕ) (size : length name ≡ 12) where
       let e : 12 - count ≡ suc (12 - (count + 1)) = omega arith in
       drop-set-lt (count + 1) name count symbol (omega arith) ∙ sym (drop-drop 1 count name) ∙ ap (drop 1) (rest ∙ ap (λ (n : ℕ). replicate n 63) e)
 
--- the loop's facts: the symbols of the bytes before i stand in the first `count` places of the name, and the others are 63
+-- the loop's facts: the symbols of the bytes before i stand in the first `count` places of the name, and the others
+-- are 63
 pub record Reading (bytes name : List ℕ) (count i : ℕ) : Type 0 where
   pub read : i ≤ length bytes
   pub room : count < 12

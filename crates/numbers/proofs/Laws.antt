@@ -1,4 +1,5 @@
--- What the code's sums and tests are, in numbers: a signed number n is read back from its bits, to_z w32 (of_z w32 n). Assumes nothing.
+-- What the code's sums and tests are, in numbers: a signed number n is read back from its bits, to_z w32 (of_z w32 n).
+-- Assumes nothing.
 use Prim.Native.Nat.{ℕ, suc, ◌-◌, ◌*◌, ◌/◌, ◌%◌, ◌^◌, ◌≤◌, ◌<◌}
 use mathlib.Core.Path.{◌≡◌, refl, sym, ap, ◌∙◌}
 use mathlib.Core.Bool.{Bool, true, false, ◌||◌}

@@ -1,4 +1,5 @@
-// The numbers that elements stand for: plain ones, and signed ones "from -32,768 to 32,767 in 16 bits" (document 02, P5).
+// The numbers that elements stand for: plain ones, and signed ones "from -32,768 to 32,767 in 16 bits" (document 02,
+// P5).
 #![tactic(auto)]
 
 ghost use Rattle.std.specs.Prelude.{◌≡◌, ◌≤◌, ◌^◌, leb};
@@ -55,26 +56,21 @@ pub fn is_too_wide_plain(species: u32, number: u32) -> bool
     ensures { result ≡ leb (2 ^ width_of species) number }
 {
     let limit: u64 = 1 << placing::width(species);
-    limit <= number as u64
+    limit <= u64::from(number)
 }
 
 // The signed calls "refuse species 0 to 5 with 19, and the plain ones refuse species 6 with 19".
+#[tactic(auto, using(std::proofs::lemmas::Bool::Decides::nat_tests))]
 pub fn is_foreign(signed: bool, species: u32) -> bool
     ensures { result ≡ is_foreign signed species }
 {
-    if signed {
-        return species != SIGNED_SPECIES;
-    }
-    species == SIGNED_SPECIES
+    signed != (species == SIGNED_SPECIES)
 }
 
 pub fn is_signed(number: Number) -> bool
     ensures { result ≡ is_signed number }
 {
-    match number {
-        Number::Plain(_plain) => false,
-        Number::Signed(_signed) => true,
-    }
+    matches!(number, Number::Signed(_))
 }
 
 // "A number too wide for its species, or outside its range where it is signed"

@@ -1,4 +1,5 @@
 -- The chain of refusals of an opening by name, by the cases that the code goes through. Assumes nothing.
+use Rattle.std.specs.Prelude.{Ok, Err}
 use Prim.Native.Nat.{ℕ, ◌+◌, ◌*◌, ◌≤◌, ◌<◌}
 use mathlib.Core.Path.{◌≡◌, refl, sym, ap, subst, ◌∙◌}
 use mathlib.Core.Bool.{Bool, true, false, not, ◌&&◌}
@@ -22,7 +23,6 @@ use Rattle.tables.specs.Fields.{is_used}
 use Rattle.tables.specs.Handles.{heading_of}
 use Rattle.catalogue_laws.specs.Places.{headings, headings-long, heading-at, looked-up-used}
 use Rattle.catalogue_laws.specs.Entries.{keeps_off, others_in, busy-first}
-use Rattle.open_choice.specs.declared.Choice.TheVariants.{No, At}
 use Rattle.open_choice.specs.Chosen.{chosen}
 
 -- ---- the record that look-up found
@@ -39,7 +39,7 @@ module _ (w : Bool) (u p : ℕ) (t : List ℕ) where
   for-work e = rw (not-false w e) (ap (λ (k : ℕ). not (eqb k u)) (sym owner-cell))
 
   module _ (r : Bool) (er : r ≡ (w && not (eqb (record_at t p).owner u))) where
-    pub no-work : r ≡ true → chosen w t (No NoWork) ≡ open_record w u p (some (heading_of (record_at t p))) (others_in t)
+    pub no-work : r ≡ true → chosen w t (Err NoWork) ≡ open_record w u p (some (heading_of (record_at t p))) (others_in t)
     unfolding chosen
     no-work e = sym (refused-here 13 _ _ (sym er ∙ e))
 
@@ -47,11 +47,11 @@ module _ (w : Bool) (u p : ℕ) (t : List ℕ) where
       is-busy : busy w p (others_in t) ≡ b
       is-busy = busy-first t w p ∙ sym eb
 
-      pub not-now : b ≡ true → chosen w t (No NotNow) ≡ open_record w u p (some (heading_of (record_at t p))) (others_in t)
+      pub not-now : b ≡ true → chosen w t (Err NotNow) ≡ open_record w u p (some (heading_of (record_at t p))) (others_in t)
       unfolding chosen
       not-now e = sym (went_on 13 _ _ _ (sym er ∙ mine) (refused-here 14 _ _ (is-busy ∙ e)))
 
-      pub opened-here : b ≡ false → chosen w t (At p) ≡ open_record w u p (some (heading_of (record_at t p))) (others_in t)
+      pub opened-here : b ≡ false → chosen w t (Ok p) ≡ open_record w u p (some (heading_of (record_at t p))) (others_in t)
       unfolding chosen
       opened-here e = sym (went_on 13 _ _ _ (sym er ∙ mine) (went_on 14 _ _ _ (is-busy ∙ e) refl))
 
@@ -61,7 +61,7 @@ pub found-used : (u : ℕ) (n t : List ℕ) (p : ℕ) → p ≡ look_up u n (hea
 found-used u n t p e = subst (λ (q : ℕ). q < places → is_used (record_at t q) ≡ true) (sym e) (looked-up-used t u n)
 
 module _ (w : Bool) (u : ℕ) (n t : List ℕ) where
-  pub empty_name : is_scratch n ≡ true → chosen w t (No Empty) ≡ open_old w u n (headings t) (others_in t)
+  pub empty_name : is_scratch n ≡ true → chosen w t (Err Empty) ≡ open_old w u n (headings t) (others_in t)
   unfolding chosen open_old
   empty_name e = sym (refused-here 15 _ _ e)
 
@@ -73,7 +73,7 @@ module _ (w : Bool) (u : ℕ) (n t : List ℕ) where
     pub look-up-found : p < places → open_record w u p (some (heading_of (record_at t p))) (others_in t) ≡ open_old w u n (headings t) (others_in t)
     look-up-found l = sym (looked ∙ ap (λ (r : Option Heading). open_record w u p r (others_in t)) (heading-at t p l (found-used u n t p ep l)))
 
-    pub unknown : places ≤ p → chosen w t (No Unknown) ≡ open_old w u n (headings t) (others_in t)
+    pub unknown : places ≤ p → chosen w t (Err Unknown) ≡ open_old w u n (headings t) (others_in t)
     unfolding chosen
     unknown l =
         let nothing : get_or (headings t) p none ≡ none = get_or-eq_default (headings t) none (omega (arith, headings-long t)) in

@@ -1,4 +1,5 @@
-// Which record an opening by name is of, or why it is refused: "15, 11/12/13, 14 (old)", of which document 02's P4 took the 12.
+// Which record an opening by name is of, or why it is refused: "15, 11/12/13, 14 (old)", of which document 02's P4 took
+// the 12.
 #![tactic(auto)]
 
 ghost use Rattle.std.specs.Prelude.{◌≡◌, true, not, ◌&&◌, ◌<◌, eqb, length};
@@ -19,13 +20,6 @@ use tables::layout;
 // The cell of the first record's owner.
 const FIRST_OWNER: usize = RECORDS_START + layout::RECORD_OWNER;
 
-// The place of the record, or the refusal.
-#[derive(Clone, Copy)]
-pub enum Choice {
-    No(Refusal),
-    At(usize),
-}
-
 // "Work on another's public file: 13."
 fn works_on_anothers(tables: &[u32], user: u32, place: usize, work: bool) -> bool
     requires { (length tables.now ≡ tables_length) × (place < places) }
@@ -37,33 +31,39 @@ fn works_on_anothers(tables: &[u32], user: u32, place: usize, work: bool) -> boo
     tables[FIRST_OWNER + RECORD_LENGTH * place] != user
 }
 
-// The record that look-up found.
-fn found(tables: &[u32], user: u32, place: usize, work: bool) -> Choice
+// The place of the record that look-up found.
+fn found(tables: &[u32], user: u32, place: usize, work: bool) -> Result<usize, Refusal>
     requires { (length tables.now ≡ tables_length) × (place < places) × (is_used (record_at tables.now place) ≡ true) }
     ensures verdict { chosen work tables.now result ≡ open_record work user place (some (heading_of (record_at tables.now place))) (others_in tables.now) }
     ensures there { There tables.now result }
 {
     if works_on_anothers(tables, user, place, work) {
-        return Choice::No(Refusal::NoWork);
+        return Err(Refusal::NoWork);
     }
     if catalogue_search::busy(tables, place as u32, work) {
-        return Choice::No(Refusal::NotNow);
+        return Err(Refusal::NotNow);
     }
-    Choice::At(place)
+    Ok(place)
 }
 
-// What look-up does not find is unknown: "A file that is another's and private must look absent: 11 in place of 12, for read and for work".
-pub fn choose(tables: &[u32], user: u32, name: [u32; NAME_SYMBOLS], work: bool) -> Choice
+// What look-up does not find is unknown: "A file that is another's and private must look absent: 11 in place of 12, for
+// read and for work".
+pub fn choose(
+    tables: &[u32],
+    user: u32,
+    name: [u32; NAME_SYMBOLS],
+    work: bool,
+) -> Result<usize, Refusal>
     requires { length tables.now ≡ tables_length }
     ensures verdict { chosen work tables.now result ≡ open_old work user name (headings tables.now) (others_in tables.now) }
     ensures there { There tables.now result }
 {
     if names::is_scratch(name) {
-        return Choice::No(Refusal::Empty);
+        return Err(Refusal::Empty);
     }
     let place = catalogue_search::look_up(tables, user, &name);
     if place < PLACES {
         return found(tables, user, place, work);
     }
-    Choice::No(Refusal::Unknown)
+    Err(Refusal::Unknown)
 }

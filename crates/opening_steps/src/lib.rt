@@ -39,13 +39,7 @@ fn from_second(list: [Segment; LIST_LENGTH]) -> [Segment; LIST_LENGTH]
     ensures { result ≡ drop 1 list ++ (segment 0 ∷ []) }
 {
     let mut rest = [Segment::of(0); LIST_LENGTH];
-    let mut i: usize = 0;
-    while i < LAST_SLOT {
-        let j = i + 1;
-        let found = list[j];
-        rest[i] = found;
-        i += 1;
-    }
+    rest[..LAST_SLOT].copy_from_slice(&list[1..]);
     rest
 }
 

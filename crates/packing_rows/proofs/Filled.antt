@@ -11,7 +11,7 @@ use Rattle.packing.specs.Packing.{row_of, cells_of, sum, packed}
 use Rattle.packing_rows.specs.Waiting.{Narrow, Begun, Packs}
 use Rattle.packing_rows.specs.Cells.{Cells, row-cells}
 use Rattle.packing_rows.specs.Longer.{row-suc, sum-whole}
-use Rattle.packing_rows.proofs.Turns.{top_lt, top-le, rest-is, top-row}
+use Rattle.packing_rows.proofs.Turns.{top_lt, rest-is, top-row}
 
 abbrev pub Filled : List ℕ → List ℕ → List ℕ → ℕ → ℕ → ℕ → ℕ → Type 0
 Filled ws xs cells number bits next full =
@@ -34,9 +34,6 @@ module _ (ws : List ℕ) (number bits next : ℕ) (begun : Begun ws number bits 
 
   pub cell-lt : number / 2 ^ rest < 2 ^ 32
   cell-lt = top_lt number 32 rest fits (omega (arith, begun.1))
-
-  pub cell-le : (number / 2 ^ rest * 2 ^ rest) % 2 ^ 64 ≤ number
-  cell-le = top-le number 32 rest fits (omega (arith, begun.1))
 
   pub filled-turn : (xs cells : List ℕ) (full bits₀ next₀ : ℕ) → full < length cells → sum (take next ws) + bits₀ ≡ sum (take next₀ ws) + bits → sum (take next₀ ws) ≡ 32 * full + bits₀ → Packs ws xs (row_of (take full cells)) number bits next
       → Filled ws xs (set cells full (number / 2 ^ rest)) (number - (number / 2 ^ rest * 2 ^ rest) % 2 ^ 64) rest next (full + 1)

@@ -1,4 +1,5 @@
--- `rows::unpack`: the first `read` cells are read, and the next number is wider than the bits that wait are many. Assumes nothing.
+-- `rows::unpack`: the first `read` cells are read, and the next number is wider than the bits that wait are many.
+-- Assumes nothing.
 use mathlib.Core.Path.{◌≡◌, refl, sym, ap, subst, ◌∙◌}
 use mathlib.Core.Logic.{⊎_elim}
 use mathlib.Core.List.{List}
@@ -13,7 +14,7 @@ use Rattle.packing.specs.Packing.{row_of, sum, packed, unpacked}
 use Rattle.packing_rows.specs.Waiting.{Narrow, Begun, Unpacks}
 use Rattle.packing_rows.specs.Pack.{unpack-packed, trimmed-same}
 use Rattle.packing_rows.specs.Longer.{row-suc, sum-at, packed-suc}
-use Rattle.packing_rows.proofs.Turns.{below-lt, below_row, below-shl, below-fits, top_lt, top-le, rest-is, top-row}
+use Rattle.packing_rows.proofs.Turns.{below-lt, below_row, below-shl, top_lt, rest-is, top-row}
 
 -- ---- a number is handed out
 
@@ -35,9 +36,6 @@ module _ (ws : List ℕ) (narrow : Narrow ws) (number bits next : ℕ) (begun : 
 
   pub value-lt : number / 2 ^ rest < 2 ^ 32
   value-lt = lt_of_lt_of_le value-few (pow_mono (narrow next l).1)
-
-  pub value-le : (number / 2 ^ rest * 2 ^ rest) % 2 ^ 64 ≤ number
-  value-le = top-le number width rest fits (omega (arith, begun.1))
 
   left_is : number - (number / 2 ^ rest * 2 ^ rest) % 2 ^ 64 ≡ number % 2 ^ rest
   left_is = rest-is number width rest fits (omega (arith, begun.1))
@@ -86,9 +84,6 @@ unfolding sum packed row_of
 handed-start ws cells ys h = ((omega arith, omega arith, omega arith), omega arith, refl, (λ l. (h 0 l).0), ((λ k l. absurd (not-suc-le-zero l)), refl))
 
 module _ (ws cells : List ℕ) (number bits next read cell : ℕ) (begun : Begun ws number bits next) (few : bits < 32) (small : cell < 2 ^ 32) where
-  pub read_fits : (number * 2 ^ 32) % 2 ^ 64 + cell < 2 ^ 64
-  read_fits = below-fits number bits 32 cell begun.2 small (omega arith)
-
   joined : (number * 2 ^ 32) % 2 ^ 64 + cell ≡ number * 2 ^ 32 + cell
   joined = below-shl number bits 32 cell begun.2 small (omega arith)
 

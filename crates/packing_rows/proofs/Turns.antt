@@ -41,9 +41,6 @@ module _ (v k b : ℕ) (fits : v < 2 ^ (k + b)) (room : k + b ≤ 64) where
   shl-top : (v / 2 ^ b * 2 ^ b) % 2 ^ 64 ≡ v / 2 ^ b * 2 ^ b
   shl-top = shl_exact k b 64 top_lt room
 
-  pub top-le : (v / 2 ^ b * 2 ^ b) % 2 ^ 64 ≤ v
-  top-le = omega (arith, shl-top, split v b)
-
   pub rest-is : v - (v / 2 ^ b * 2 ^ b) % 2 ^ 64 ≡ v % 2 ^ b
   rest-is = omega (arith, shl-top, split v b)
 

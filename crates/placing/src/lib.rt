@@ -1,5 +1,6 @@
-// "Segment numbers, positions and cell numbers are different kinds of number and are never to be mixed": each is a struct with a
-// private field, and one is made of another by the placing rules alone.
+// "Segment numbers, positions and cell numbers are different kinds of number and are never to be mixed": each is a
+// struct with a private field, and one is made of another by the placing rules alone. They are made by `of` and read by
+// `number` and `index`, and not by `From`, since an `.into()` does not name its kind and would let the kinds be mixed.
 #![tactic(auto)]
 
 ghost use Rattle.std.specs.Prelude.{◌≡◌, ◌≤◌, ◌<◌, ◌*◌};
@@ -72,7 +73,9 @@ pub const SIGNED_SPECIES: u32 = 6;
 
 pub const WIDTHS: [u32; 7] = [1, 2, 4, 8, 16, 32, 16];
 
-// "so E = 2048, 1024, 512, 256, 128 and 64 elements in a segment"; of species 6, "E = 128"
+// "so E = 2048, 1024, 512, 256, 128 and 64 elements in a segment"; of species 6, "E = 128". They stand beside the
+// widths as the document has them: made of the widths, they would be seven quotients written out, or a division more
+// for each element.
 pub const ELEMENTS: [u32; 7] = [2048, 1024, 512, 256, 128, 64, 128];
 
 // "Raise the begin and end limit to 4,294,967,295" (document 02, P6)
@@ -82,11 +85,11 @@ pub const GREATEST_END: u32 = 4294967295;
 pub const MOST_HELD: u32 = 32;
 
 // The number of a segment of the store.
-#[derive(Clone, Copy)]
+#[derive(Clone, Copy, PartialEq, Eq)]
 pub struct Segment(u32);
 
 // A position of a file; in a pointer's place, 0 is no pointer.
-#[derive(Clone, Copy)]
+#[derive(Clone, Copy, PartialEq, Eq, PartialOrd, Ord)]
 pub struct Position(u32);
 
 // The number of a cell of the store.
@@ -195,7 +198,8 @@ impl Cell {
     }
 }
 
-// "A file holds one segment for each stretch with at least one of its positions, and no other; an empty file holds none."
+// "A file holds one segment for each stretch with at least one of its positions, and no other; an empty file holds
+// none."
 pub fn held(species: u32, begin: Position, end: Position) -> u32
     requires { (species ≤ greatest_species) × (1 ≤ begin.0) × (begin.0 ≤ end.0) × (end.0 ≤ greatest_end) }
     ensures { result ≡ held_of species begin.0 end.0 }
@@ -209,8 +213,8 @@ pub fn held(species: u32, begin: Position, end: Position) -> u32
     last.slot(begin, species) + 1
 }
 
-// "The claim is the number of positions from b to the end of the last held stretch, 0 for an empty file.": those of the held stretches but for
-// the first one's before b, as the end of the last may lie beyond every position.
+// "The claim is the number of positions from b to the end of the last held stretch, 0 for an empty file.": those of the
+// held stretches but for the first one's before b, as the end of the last may lie beyond every position.
 pub fn claim(species: u32, begin: Position, end: Position) -> u32
     requires species_le_greatest_species { (species ≤ greatest_species) × (1 ≤ begin.0) × (begin.0 ≤ end.0) × (end.0 ≤ greatest_end) }
     requires end_bound { held_of species begin.0 end.0 ≤ most_held }

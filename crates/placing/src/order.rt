@@ -22,13 +22,13 @@ impl Position {
     pub fn is_before(self, other: Position) -> bool
         ensures { result ≡ ltb self.0 other.0 }
     {
-        self.0 < other.0
+        self < other
     }
 
     pub fn is_at_most(self, other: Position) -> bool
         ensures { result ≡ leb self.0 other.0 }
     {
-        self.0 <= other.0
+        self <= other
     }
 
     // Whether no end is beyond it: an append is refused for 10 there.

@@ -1,6 +1,6 @@
 -- A run at the gate and behind it: "a list of length 0 still gets refusals 20, 1, 2, 4, 5 where they apply", and 19. r is a run, s the store's cells, t the
 -- tables', u a user, e an entry, i the entry of 32. Assumes nothing.
-use Rattle.std.specs.Prelude.{ℕ, ◌%◌, ◌≤◌, ◌<◌, ◌≡◌, ◌≢◌, Bool, not, ◌&&◌, List, [], eqb, ltb, length, get_or}
+use Rattle.std.specs.Prelude.{ℕ, ◌%◌, ◌≤◌, ◌<◌, ◌≡◌, ◌≢◌, Bool, not, ◌&&◌, List, [], eqb, ltb, length, get_or, Err, Ok}
 use Rattle.std.proofs.Math.Path.{refl, ap}
 use Rattle.std.proofs.Common.{sym, ◌∙◌, arith, eq-eqb, ne_eqb}
 use Rattle.std.proofs.Math.Bool.{true, false}
@@ -29,9 +29,7 @@ use Rattle.tables.specs.Handles.{handle_in}
 use Rattle.tables.specs.Laws.Pointers.{value_in}
 use Rattle.cells.specs.Says.{opening_in, decoded_opening, house_of}
 use Rattle.cells.specs.Outcomes.{Lent, lent, sound_lent, request_out, run_out}
-use Rattle.gate.specs.declared.Gate.{Gate}
-use Rattle.gate.specs.declared.Gate.TheVariants.{No, At}
-use Rattle.gate.specs.Gates.{refusing, pass_of, opened, reach_of}
+use Rattle.gate.specs.Gates.{Gate, refusing, pass_of, opened, reach_of}
 use Rattle.gate.specs.Passed.{Passed, Reached, pass-at, reaches}
 use Rattle.gate_laws.specs.Behind.{passed-few}
 use Rattle.run_laws.specs.Singles.{use_on, uses_on, writes_of, nexts_of}
@@ -100,31 +98,31 @@ module _ (r : Run) (s t : List ℕ) (u e : ℕ) where
   -- ---- refused at the gate
 
   module _ (why : Refusal) where
-    not-no : (i : ℕ) → At i ≡ No why → ⊥
+    not-no : (i : ℕ) → Ok i ≡ Err why → ⊥
     not-no i q = let z : ◌≡◌ {A = ℕ} 0 1 = cc in omega arith
 
-    said : (y : Refusal) → judged ≡ refused (refusal_number y) → No y ≡ No why → judged ≡ refused (refusal_number why)
+    said : (y : Refusal) → judged ≡ refused (refusal_number y) → ◌≡◌ {A = Gate} (Err y) (Err why) → judged ≡ refused (refusal_number why)
     said y h q = let z : y ≡ why = cc in h ∙ ap (λ (x : Refusal). refused (refusal_number x)) z
 
     judged-here : (a b c : Bool) → sound_lent s t ≡ a → ltb greatest_user u ≡ b → ltb greatest_entry e ≡ c
-        → refusing (not a) Tables (refusing b User (refusing c Entry (At (entry_of u e)))) ≡ No why → judged ≡ refused (refusal_number why)
+        → refusing (not a) Tables (refusing b User (refusing c Entry (Ok (entry_of u e)))) ≡ Err why → judged ≡ refused (refusal_number why)
     unfolding refusing entry_gate user_gate refuse◌when◌else◌
     judged-here false b c pa pb pc h = said Tables (rw pa refl) h
     judged-here true true c pa pb pc h = said User (rw (pa, pb) refl) h
     judged-here true false true pa pb pc h = said Entry (rw (pa, pb, pc) refl) h
     judged-here true false false pa pb pc h = absurd (not-no (entry_of u e) h)
 
-    closed-here : (i : ℕ) (b : Bool) → is_open (opening_at t i) ≡ b → Passed (length s) t u e i → refusing (not b) Entry (At i) ≡ No why → judged ≡ refused (refusal_number why)
+    closed-here : (i : ℕ) (b : Bool) → is_open (opening_at t i) ≡ b → Passed (length s) t u e i → refusing (not b) Entry (Ok i) ≡ Err why → judged ≡ refused (refusal_number why)
     unfolding refusing
     closed-here i true q p h = absurd (not-no i h)
     closed-here i false q p h = said Entry (passed-judged i p ∙ ap (admits r) (handle-none t i (passed-few p) q)) h
 
-    opened-no : (g : Gate) → pass_of (length s) t u e ≡ g → opened t g ≡ No why → judged ≡ refused (refusal_number why)
+    opened-no : (g : Gate) → pass_of (length s) t u e ≡ g → opened t g ≡ Err why → judged ≡ refused (refusal_number why)
     unfolding pass_of
-    opened-no (No y) q h = let z : pass_of (length s) t u e ≡ No why = q ∙ h in judged-here (sound_lent s t) (ltb greatest_user u) (ltb greatest_entry e) refl refl refl z
-    opened-no (At i) q h = closed-here i (is_open (opening_at t i)) refl (pass-at (length s) t u e i q) h
+    opened-no (Err y) q h = let z : pass_of (length s) t u e ≡ Err why = q ∙ h in judged-here (sound_lent s t) (ltb greatest_user u) (ltb greatest_entry e) refl refl refl z
+    opened-no (Ok i) q h = closed-here i (is_open (opening_at t i)) refl (pass-at (length s) t u e i q) h
 
-    pub refused-run : reach_of (length s) t u e ≡ No why → run_out r s t u e ≡ ran 0 (refusal_number why) [] (lent s t)
+    pub refused-run : reach_of (length s) t u e ≡ Err why → run_out r s t u e ≡ ran 0 (refusal_number why) [] (lent s t)
     unfolding run_out reach_of
     refused-run h =
         ap (λ (v : Said). admitted (lent s t) v (run_over (λ q x. request_out q x.store x.tables u e) (requests_of r) (lent s t)))
@@ -133,10 +131,10 @@ module _ (r : Run) (s t : List ℕ) (u e : ℕ) where
 -- ---- the same, of a gate that the code has in hand
 
 module _ (r : Run) (s t : List ℕ) (u e : ℕ) (g : Gate) (eg : g ≡ reach_of (length s) t u e) where
-  pub run-refused : (why : Refusal) → g ≡ No why → run_out r s t u e ≡ ran 0 (refusal_number why) [] (lent s t)
+  pub run-refused : (why : Refusal) → g ≡ Err why → run_out r s t u e ≡ ran 0 (refusal_number why) [] (lent s t)
   run-refused why at = refused-run r s t u e why (sym eg ∙ at)
 
-  pub run-behind : (i : ℕ) → g ≡ At i → run_out r s t u e ≡ admitted (lent s t) (admits r (some (handle_in (opening_at t i)))) (uses_on i (acts_of r) (lent s t))
+  pub run-behind : (i : ℕ) → g ≡ Ok i → run_out r s t u e ≡ admitted (lent s t) (admits r (some (handle_in (opening_at t i)))) (uses_on i (acts_of r) (lent s t))
   run-behind i at = reached-run r s t u e i (reaches s t u e g eg i at)
 
 -- ---- 19, 4 and 5, by the opening o that was loaded: f says that its species is signed, v is the pointer's value, and q what the run comes to where it

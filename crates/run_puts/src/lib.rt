@@ -19,11 +19,9 @@ fn put_row(store: &mut [u32], from: usize, width: u32, list: &[u32], count: usiz
     ensures { store.new ≡ put_row store.old from width list.now count }
 {
     let mut bits = from;
-    let mut j: usize = 0;
-    while j < count {
-        put_after(store, bits, width, list[j]);
+    for number in &list[0..count] {
+        put_after(store, bits, width, *number);
         bits += width as usize;
-        j += 1;
     }
 }
 

@@ -1,17 +1,15 @@
 -- The numbers of a list before the first that is too wide, as the code's steps give their premises: j of them are looked at. Assumes nothing.
-use Prim.Native.Nat.{ℕ, ◌+◌, ◌-◌, ◌*◌, ◌%◌, ◌^◌, ◌≤◌, ◌<◌}
-use mathlib.Core.Path.{◌≡◌, sym, ap, subst, ◌∙◌}
-use mathlib.Core.Logic.{⊎_elim}
-use mathlib.Core.Bool.{Bool, true, false}
+use Prim.Native.Nat.{ℕ, ◌-◌, ◌*◌, ◌%◌, ◌^◌, ◌≤◌, ◌<◌}
+use mathlib.Core.Path.{◌≡◌, ap, subst, ◌∙◌}
+use mathlib.Core.Bool.{true}
 use mathlib.Core.List.{List}
 use native.Mathlib.Nat.{one-mul}
 use native.Mathlib.Omega.{arith}
-use lib.Dec.{leb, ltb, lit≤}
+use lib.Dec.{ltb, lit≤}
 use lib.Pow.{shl_exact}
 use lib.ListN.{length, get_or, take, drop}
 use lib.Seq.{length-take-le, get_or-take}
 use Rattle.combine.specs.Laws.Below.{all-at}
-use Rattle.combine.specs.Laws.Numbers.{eq-or-ne}
 use Rattle.combine.specs.Below.{all_below}
 use borrow.Author.Tests.{ltb-true, lt-leb}
 use Rattle.placing.specs.Sizes.{width_of}
@@ -25,23 +23,6 @@ pub record AllFit (species : ℕ) (list : List ℕ) (many : ℕ) : Type 0 where
 
 pub fits-none : (s : ℕ) (l : List ℕ) → AllFit s l 0
 fits-none s l = record { fit = λ j h. absurd (omega arith) }
-
-module _ (s : ℕ) (l : List ℕ) (j : ℕ) (a : AllFit s l j) where
-  -- w says that number j is too wide
-  module _ (w : Bool) (ew : w ≡ leb (2 ^ width_of s) (get_or l j 0)) where
-    pub fits_more : w ≡ false → AllFit s l (j + 1)
-    fits_more f =
-        record {
-          fit = λ i h. ⊎_elim
-              (λ (e : i ≡ j). subst (Fits s l) (sym e) (sym ew ∙ f))
-              (λ d. a.fit i (omega (arith, h, d))) (eq-or-ne i j);
-        }
-
-    pub leading-stops : (most : ℕ) → j ≤ most → w ≡ true → Fitting s l most j
-    leading-stops most few t = record { few = few; fit = a.fit; stops = λ m. sym ew ∙ t }
-
-  pub leading-ends : (most : ℕ) → j ≤ most → most ≤ j → Fitting s l most j
-  leading-ends most few all = record { few = few; fit = a.fit; stops = λ m. absurd (omega arith) }
 
 -- ---- all of them below the bound that the code makes of the width w
 

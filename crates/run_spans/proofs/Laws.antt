@@ -9,7 +9,7 @@ use Rattle.placing.specs.declared.Cell.{Cell}
 use Rattle.placing.specs.Sizes.{greatest_species, elements_of}
 use Rattle.placing.specs.Placing.{position, stretch_of, offset_of, cell_of, bit_of}
 use Rattle.placing.specs.Laws.Sized.{elements-many, stretch-mono, cell_in}
-use Rattle.run_spans.specs.Ahead.{Ahead}
+use Rattle.run_spans.specs.Ahead.{Ahead, Fewer}
 
 module _ (s : ℕ) (h : s ≤ greatest_species) (v : ℕ) (some : 1 ≤ v) where
   abbrev left : ℕ
@@ -39,13 +39,11 @@ module _ (s : ℕ) (h : s ≤ greatest_species) (v : ℕ) (some : 1 ≤ v) where
 
   -- c is what is left of the stretch, x - y how many come before the other
   module _ (e c x y : ℕ) (ec : c ≡ left) (ex : x ≡ e) (ey : y ≡ v) (before : v < e) where
-    pub here-ahead : c < x - y → Ahead s v e c
-    here-ahead l = record { some = omega (arith, ec, left-some); before = omega arith; same = λ j k. left-same j (omega (arith, k, ec)) }
-
-    pub before-ahead : x - y ≤ c → Ahead s v e (x - y)
-    before-ahead l = record { some = omega arith; before = omega arith; same = λ j k. left-same j (omega (arith, k, ec)) }
-
-pub ruleset spans = (here-ahead, before-ahead)
+    pub least-ahead : (m : ℕ) → Fewer c (x - y) m → Ahead s v e m
+    least-ahead m f =
+        let here = f.first in
+        let there = f.second in
+        record { some = f.some (omega (arith, ec, left-some)) (omega arith); before = omega arith; same = λ j k. left-same j (omega (arith, k, ec)) }
 
 pub moved_on : (x y : Position) (v k m : ℕ) → y ≡ position m → m ≡ v + k → v ≡ x.0 → y.0 ≡ x.0 + k
 moved_on x y v k m e em ev = let z = ap (λ (q : Position). q.0) e in omega arith

@@ -13,7 +13,7 @@ pub fn put_cells(store: &mut [u32], segment: Segment, first: Position, list: &[u
     ensures { store.new ≡ paste store.old (cell_of whole_species segment first).0 list.now count }
 {
     let at = segment.whole_cell(first).index();
-    combine::copy_cells(&list[0..count], &mut store[at..at + count]);
+    store[at..at + count].copy_from_slice(&list[0..count]);
 }
 
 // So many elements from a position on, into a list from a place on.
@@ -29,5 +29,5 @@ pub fn take_cells(
     ensures { list.new ≡ paste list.old from (part store.now (cell_of whole_species segment first).0 count) count }
 {
     let at = segment.whole_cell(first).index();
-    combine::copy_cells(&store[at..at + count], &mut list[from..from + count]);
+    list[from..from + count].copy_from_slice(&store[at..at + count]);
 }

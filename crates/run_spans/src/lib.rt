@@ -23,21 +23,14 @@ pub fn ahead(species: u32, first: Position, beyond: Position) -> u32
 {
     let here = first.left_in_stretch(species);
     let before = beyond.number() - first.number();
-    if here < before {
-        return here;
-    }
-    before
+    here.min(before)
 }
 
 // So many, but no more than are left.
 pub fn fewer(most: u32, left: usize) -> usize
     ensures { Fewer most left result }
 {
-    let many = most as usize;
-    if many < left {
-        return many;
-    }
-    left
+    left.min(most as usize)
 }
 
 // Whether it is seen at once that so many numbers of a list fit: with no early exit, so that the compiler makes the loop wide.
@@ -60,14 +53,12 @@ fn leading(species: u32, list: &[u32], most: usize) -> usize
     requires { (species ≤ greatest_species) × (most ≤ length list.now) }
     ensures { Fitting species list.now most result }
 {
-    let mut j: usize = 0;
-    while j < most {
-        if numbers::is_too_wide_plain(species, list[j]) {
+    for (j, number) in list[0..most].iter().enumerate() {
+        if numbers::is_too_wide_plain(species, *number) {
             return j;
         }
-        j += 1;
     }
-    j
+    most
 }
 
 // The same. Of species 5 no number is too wide, and nothing is looked at.

@@ -1,7 +1,7 @@
 // The elements that a run takes from one stretch: how many, and they are taken.
 #![tactic(auto)]
 
-ghost use Rattle.std.specs.Prelude.{◌≡◌, ◌+◌, ◌*◌, ◌≤◌, ◌<◌, length, set};
+ghost use Rattle.std.specs.Prelude.{◌≡◌, ◌+◌, ◌*◌, ◌≤◌, ◌<◌, length};
 ghost use Rattle.std.proofs.Math.Seq.{paste};
 ghost use Rattle.placing.specs.Sizes.{segment_cells, greatest_species, tables_length, entries};
 ghost use Rattle.tables.specs.Fields.{value_of};
@@ -30,26 +30,15 @@ pub fn how_far(opening: Opening, pointer: u32, left: usize) -> usize
     run_spans::fewer(most, left)
 }
 
-// A place of a list gets an element; the others stay as they were.
-fn fill_place(list: &mut [u32], place: usize, element: u32)
-    requires { place < length list.old }
-    ensures { list.new ≡ set list.old place element }
-{
-    list[place] = element;
-}
-
 // So many elements, each of a width, one after another from some bits on, into a list from a place on.
 fn take_row(store: &[u32], first: usize, width: u32, list: &mut [u32], from: usize, count: usize)
     requires { Row (length store.now) first width count × (from + count ≤ length list.old) }
     ensures { list.new ≡ paste list.old from (taken_row store.now first width count) count }
 {
     let mut bits = first;
-    let mut n: usize = 0;
-    while n < count {
-        let element = take_after(store, bits, width);
-        fill_place(list, from + n, element);
+    for n in 0..count {
+        list[from + n] = take_after(store, bits, width);
         bits += width as usize;
-        n += 1;
     }
 }
 

@@ -5,6 +5,7 @@ ghost use Rattle.std.specs.Prelude.{◌≡◌, map, ◌≤◌, length};
 ghost use Rattle.placing.specs.Sizes.{most_held};
 ghost use Rattle.placing.specs.Placing.{segment};
 ghost use Rattle.tables.specs.Records.{extentb, listb};
+ghost use Rattle.sound_extents.specs.Extent.{contentb};
 
 use placing::{GREATEST_END, GREATEST_SPECIES, LIST_LENGTH, MOST_HELD, Position};
 
@@ -36,4 +37,16 @@ pub fn list_sound(list: &[u32], held: usize, segments: u32) -> bool
         return false;
     }
     combine::all_zero(&list[held..LIST_LENGTH])
+}
+
+// Both, of a record's cells or an opening's.
+pub fn content_sound(species: u32, begin: u32, end: u32, list: &[u32], segments: u32) -> bool
+    requires { length list.now ≡ most_held }
+    ensures { result ≡ contentb segments species begin end (map segment list.now) }
+{
+    if !extent_sound(species, begin, end) {
+        return false;
+    }
+    let held = placing::held(species, Position::of(begin), Position::of(end));
+    list_sound(list, held as usize, segments)
 }

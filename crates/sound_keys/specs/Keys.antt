@@ -1,6 +1,6 @@
 -- Numbers made of a name of six symbols and six: two used records have the same two keys exactly where they have the same
 -- name. Assumes nothing.
-use Rattle.std.specs.Prelude.{ℕ, zero, suc, ◌+◌, ◌*◌, ◌/◌, ◌%◌, Bool, not, cond, ◌&&◌, ◌||◌, List, eqb, leb, get_or}
+use Rattle.std.specs.Prelude.{ℕ, zero, suc, ◌+◌, ◌*◌, ◌/◌, ◌%◌, ◌^◌, Bool, not, cond, ◌&&◌, ◌||◌, List, eqb, leb, get_or}
 use Rattle.combine.specs.Below.{all_below}
 use Rattle.tables.specs.declared.Record.{Record}
 
@@ -15,7 +15,7 @@ key_of r at = cond (eqb r.used 0) 0 (digits r.name at 6)
 
 -- a number of 32 bits for two keys and an owner: records of one name and one owner have the same, and others seldom
 unfoldable pub short_of : ℕ → ℕ → ℕ → ℕ
-short_of high low owner = ((high % 137438953472 + 4099 * (low % 137438953472)) * 32719 / 256 + owner % 8 * 536870912) % 4294967296
+short_of high low owner = ((high % 2 ^ 37 + 4099 * (low % 2 ^ 37)) * 32719 / 2 ^ 8 + owner % 8 * 2 ^ 29) % 2 ^ 32
 
 -- one for two keys alone, as public records of one name clash whoever owns them; 0 for a private record
 unfoldable pub public_of : ℕ → ℕ → ℕ → ℕ

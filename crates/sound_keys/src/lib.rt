@@ -1,15 +1,49 @@
 // Keys of names: numbers by which the records are told apart fast. They stand in no promise; soundness speaks of names.
 #![tactic(auto)]
 
-ghost use Rattle.std.specs.Prelude.{◌≡◌, ◌-◌, ◌≤◌, ◌<◌, length};
+ghost use Rattle.std.specs.Prelude.{◌≡◌, ◌-◌, ◌^◌, ◌≤◌, ◌<◌, length};
 ghost use Rattle.placing.specs.Sizes.{places, record_length};
 ghost use Rattle.tables.specs.Layout.{record_of};
 ghost use Rattle.sound_keys.specs.Keys.{key_of, short_of, public_of, newb, apartb};
 
+use placing::{GREATEST_USER, PLACES};
 use tables::layout;
 
+// A symbol of a name is below this.
+const SYMBOLS: u64 = 1 << 6;
+
+// A key is below this: six symbols after a 1.
+const KEY_BOUND: u64 = 1 << 37;
+
+// The factor of the low key in a sum of two, above SYMBOLS^2.
+const LOW_FACTOR: u64 = 4099;
+
+// What a sum of two keys is multiplied by, and how much of the product is left out below its middle.
+const SPREAD: u64 = 32719;
+
+const BELOW_MIDDLE: u64 = 1 << 8;
+
+// A short key is below this, and one of so many owners is added at its top three bits.
+const SHORT_BOUND: u64 = 1 << 32;
+
+const OWNERS: u32 = GREATEST_USER + 1;
+
+const OWNER_UNIT: u64 = SHORT_BOUND / OWNERS as u64;
+
+// From this place on the short keys are asked.
+const FIRST_ASKED: usize = 16;
+
+// The keys of the records at all places, as far as they are made: of the two halves of a name, and the short ones.
+#[derive(Drop)]
+pub struct Keys {
+    pub high: [u64; PLACES],
+    pub low: [u64; PLACES],
+    pub owned: [u32; PLACES],
+    pub public: [u32; PLACES],
+}
+
 fn wide(cell: u32) -> u64
-    ensures { (result ≡ cell) × (result < 4294967296) }
+    ensures { (result ≡ cell) × (result < 2 ^ 32) }
 {
     cell as u64
 }
@@ -22,20 +56,20 @@ pub fn key(row: &[u32], at: usize) -> u64
     if row[layout::RECORD_USED] == 0 {
         return 0;
     }
-    let two = (64 + wide(row[at])) * 64 + wide(row[at + 1]);
-    let four = (two * 64 + wide(row[at + 2])) * 64 + wide(row[at + 3]);
-    (four * 64 + wide(row[at + 4])) * 64 + wide(row[at + 5])
+    let two = (SYMBOLS + wide(row[at])) * SYMBOLS + wide(row[at + 1]);
+    let four = (two * SYMBOLS + wide(row[at + 2])) * SYMBOLS + wide(row[at + 3]);
+    (four * SYMBOLS + wide(row[at + 4])) * SYMBOLS + wide(row[at + 5])
 }
 
 // A number of 32 bits for two keys and an owner: records of one name and one owner have the same, and others seldom. A key of
-// six symbols is below 2^37, so that no bit of it is lost, and each one reaches the 32 that are taken from the middle of the
-// product, which is below 2^64. The factor 4099, above 64^2, keeps a change of the high key's last two symbols from cancelling
-// with one of the low key. The owner's three bits are added at the top, so that one name with two owners never has one number.
+// six symbols loses no bit, and each one reaches the 32 that are taken from the middle of the product, which is below 2^64.
+// LOW_FACTOR keeps a change of the high key's last two symbols from cancelling with one of the low key. The owner's three bits
+// are added at the top, so that one name with two owners never has one number.
 pub fn short(high: u64, low: u64, owner: u32) -> u32
     ensures { result ≡ short_of high low owner }
 {
-    let sum = high % 137438953472 + 4099 * (low % 137438953472);
-    ((sum * 32719 / 256 + wide(owner % 8) * 536870912) % 4294967296) as u32
+    let sum = high % KEY_BOUND + LOW_FACTOR * (low % KEY_BOUND);
+    ((sum * SPREAD / BELOW_MIDDLE + wide(owner % OWNERS) * OWNER_UNIT) % SHORT_BOUND) as u32
 }
 
 // One for two keys alone, as public records of one name clash whoever owns them; 0 for a private record, which clashes with
@@ -57,20 +91,20 @@ fn is_new(shorts: &[u32], p: usize) -> bool
     !combine::lists(&shorts[0..p], shorts[p])
 }
 
-// Whether the short keys tell the record at place p from all before it. They are asked from place 16 on: fewer records are
-// compared one by one in less time than two rows are searched.
-pub fn apart(owned: &[u32], public: &[u32], private: u32, p: usize) -> bool
-    requires { (length owned.now ≡ places) × (length public.now ≡ places) × (p < places) }
-    ensures { result ≡ apartb owned.now public.now private p }
+// Whether the short keys tell the record at place p from all before it. They are asked from FIRST_ASKED on: fewer
+// records are compared one by one in less time than two rows are searched.
+pub fn apart(keys: &Keys, private: u32, p: usize) -> bool
+    requires { p < places }
+    ensures { result ≡ apartb keys.now.owned keys.now.public private p }
 {
-    if p < 16 {
+    if p < FIRST_ASKED {
         return false;
     }
-    if !is_new(owned, p) {
+    if !is_new(&keys.owned, p) {
         return false;
     }
     if private != 0 {
         return true;
     }
-    is_new(public, p)
+    is_new(&keys.public, p)
 }

@@ -9,6 +9,7 @@ ghost use Rattle.tables.specs.Openings.{workb};
 ghost use Rattle.sound_links.specs.Linked.{elsewhereb, linkedb};
 
 use placing::{ENTRIES, OPENING_LENGTH, OPENINGS_START, RECORD_LENGTH, RECORDS_START};
+use sound_reading::ROW_ENTRIES;
 use tables::layout;
 
 // What an opening has for the record at the last place: its place and 1.
@@ -16,9 +17,6 @@ const LAST_PLACE: u32 = placing::PLACES as u32;
 
 // The cell of the first opening's place.
 const FIRST_PLACE: usize = OPENINGS_START + layout::OPENING_PLACE;
-
-// How many entries a user has.
-const ROW_ENTRIES: usize = placing::ROW_ENTRIES as usize;
 
 // Whether an entry is the opening's own, or has not its record.
 fn elsewhere(tables: &[u32], other: usize, entry: usize, place: u32) -> bool
@@ -36,12 +34,10 @@ fn alone(tables: &[u32], entry: usize, place: u32) -> bool
     requires { length tables.now ≡ tables_length }
     ensures { result ≡ all_below entries (elsewhereb tables.now entry place) }
 {
-    let mut other = 0;
-    while other < ENTRIES {
+    for other in 0..ENTRIES {
         if !elsewhere(tables, other, entry, place) {
             return false;
         }
-        other += 1;
     }
     true
 }

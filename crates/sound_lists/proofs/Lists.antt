@@ -33,10 +33,6 @@ module _ (t : List ℕ) where
             subst₂ (λ (x y : ℕ). Passed t x 0 m'' y) e sum (b.passes (k + c) (a.passes k p));
       }
 
-  -- as many lists as there are
-  pub passes-all : (i j j' n n' : ℕ) (m m' : List ℕ) (c : ℕ) → j ≡ j' → n ≡ n' → Passes t i j m m' c (n * most_held) → Passes t i j' m m' c (n' * most_held)
-  passes-all i j j' n n' m m' c e d h = subst₂ (λ (x y : ℕ). Passes t i x m m' c (y * most_held)) e d h
-
   -- ---- the whole pass
   pass-starts : Passed t 0 0 (replicate most_segments 0) 0
   pass-starts =

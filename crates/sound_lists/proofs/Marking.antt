@@ -1,6 +1,6 @@
 -- One more mark, and how many stand then. Assumes nothing.
 use Prim.Native.Nat.{ℕ, zero, suc, ◌+◌, ◌*◌, ◌≤◌, ◌<◌}
-use mathlib.Core.Path.{◌≡◌, refl, sym, ap, subst, ◌∙◌}
+use mathlib.Core.Path.{◌≡◌, refl, sym, ap, ◌∙◌}
 use mathlib.Core.Logic.{◌≢◌, ⊎_elim}
 use mathlib.Core.Bool.{Bool, true, false, not, cond}
 use mathlib.Core.List.{List}
@@ -81,9 +81,6 @@ module _ (test : ℕ → Bool) (f : ℕ → ℕ) (m : List ℕ) where
       counted true e = omega (arith, h.set)
       counted false e = omega (arith, h.set)
 
-  pub marked-end : (n k : ℕ) (now : List ℕ) (c : ℕ) → k ≡ n → Marked test f m k now c → Marked test f m n now c
-  marked-end n k now c e h = subst (λ (x : ℕ). Marked test f m x now c) e h
-
 -- all of them are marked
 module _ (f : ℕ → ℕ) (m : List ℕ) where
   pub all_none : m ≡ mark_those (λ k. true) f m 0
@@ -93,9 +90,6 @@ module _ (f : ℕ → ℕ) (m : List ℕ) where
   pub all_more : (n : ℕ) (now : List ℕ) → now ≡ mark_those (λ k. true) f m n → set now (f n) 1 ≡ mark_those (λ k. true) f m (n + 1)
   unfolding mark_those
   all_more n now e = ap (λ (x : List ℕ). set x (f n) 1) e ∙ rw add-one
-
-  pub all-marked : (n k : ℕ) (now : List ℕ) → k ≡ n → now ≡ mark_those (λ k. true) f m k → now ≡ mark_those (λ k. true) f m n
-  all-marked n k now q e = e ∙ ap (mark_those (λ k. true) f m) q
 
 -- by another name of each
 pub all_same : (f g : ℕ → ℕ) (m : List ℕ) (n : ℕ) → ((k : ℕ) → k < n → f k ≡ g k) → mark_those (λ k. true) f m n ≡ mark_those (λ k. true) g m n

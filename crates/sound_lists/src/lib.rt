@@ -41,12 +41,10 @@ fn mark_changed(tables: &[u32], row: Row, filed: Row, marks: &mut [u8; MARKS]) -
 {
     let start = row.start;
     let mut set = 0;
-    let mut k = 0;
-    while k < row.held {
+    for k in 0..row.held {
         let segment = Segment::of(tables[start + k]);
         let shared = rows::has_at(tables, filed, row.first + k as u32, segment);
         set += marks::mark_unshared(segment, shared, marks);
-        k += 1;
     }
     set
 }
@@ -88,10 +86,8 @@ fn mark_records(tables: &[u32], marks: &mut [u8; MARKS]) -> u32
     ensures { Passes tables.now 0 places marks.old marks.new result (places * most_held) }
 {
     let mut set = 0;
-    let mut place = 0;
-    while place < PLACES {
+    for place in 0..PLACES {
         set += mark_record(tables, place, marks);
-        place += 1;
     }
     set
 }
@@ -102,10 +98,8 @@ fn mark_openings(tables: &[u32], marks: &mut [u8; MARKS]) -> u32
     ensures { Passes tables.now places lists marks.old marks.new result (entries * most_held) }
 {
     let mut set = 0;
-    let mut entry = 0;
-    while entry < ENTRIES {
+    for entry in 0..ENTRIES {
         set += mark_opening(tables, entry, marks);
-        entry += 1;
     }
     set
 }

@@ -18,10 +18,8 @@ pub fn mark_row(row: &[u32], marks: &mut [u8; MARKS])
     requires { (k : ℕ) → k < length row.now → get_or row.now k 0 < most_segments }
     ensures { marks.new ≡ mark_those (λ k. true) (λ k. get_or row.now k 0) marks.old (length row.now) }
 {
-    let mut k = 0;
-    while k < row.len() {
-        marks[row[k] as usize] = 1;
-        k += 1;
+    for cell in row {
+        marks[*cell as usize] = 1;
     }
 }
 
@@ -45,10 +43,8 @@ fn standing_from(marks: &[u8; MARKS], start: usize) -> u8
     ensures { (result ≡ count_below part_length (λ k. is_marked marks.now (start + k))) × (result ≤ part_length) }
 {
     let mut count: u8 = 0;
-    let mut place = 0;
-    while place < PART {
+    for place in 0..PART {
         count += (marks[start + place] != 0) as u8;
-        place += 1;
     }
     count
 }
@@ -58,10 +54,8 @@ pub fn standing(marks: &[u8; MARKS]) -> u32
     ensures { result ≡ standing marks.now }
 {
     let mut count: u32 = 0;
-    let mut part = 0;
-    while part < PARTS {
+    for part in 0..PARTS {
         count += standing_from(marks, PART * part) as u32;
-        part += 1;
     }
     count
 }

@@ -11,6 +11,7 @@ ghost use Rattle.sound_clashes.specs.Halves.{Spelled};
 ghost use Rattle.sound_names.specs.Keys.{Keyed};
 
 use placing::{PLACES, RECORD_LENGTH, RECORDS_START};
+use sound_keys::Keys;
 use tables::layout;
 
 // The second six symbols of a name, in a record's row.
@@ -19,27 +20,18 @@ const SECOND_HALF: usize = layout::RECORD_NAME + 6;
 // The cell of the first record's private flag.
 const FIRST_PRIVATE: usize = RECORDS_START + layout::RECORD_PRIVATE;
 
-fn alone(
-    tables: &[u32],
-    high: &[u64; PLACES],
-    low: &[u64; PLACES],
-    owned: &[u32],
-    public: &[u32],
-    p: usize,
-) -> bool
-    requires { Keyed tables.now high.now low.now owned.now public.now (p + 1) × (is_used (record_at tables.now p) ≡ true) }
+fn alone(tables: &[u32], keys: &Keys, p: usize) -> bool
+    requires { Keyed tables.now keys.now.high keys.now.low keys.now.owned keys.now.public (p + 1) × (is_used (record_at tables.now p) ≡ true) }
     ensures { result ≡ no_clashb tables.now p }
 {
     // Records that clash have one short key: where no record before has it, none is compared one by one.
-    if sound_keys::apart(owned, public, tables[FIRST_PRIVATE + RECORD_LENGTH * p], p) {
+    if sound_keys::apart(keys, tables[FIRST_PRIVATE + RECORD_LENGTH * p], p) {
         return true;
     }
-    let mut q = 0;
-    while q < p {
-        if sound_clashes::clashes(tables, high, low, p, q) {
+    for q in 0..p {
+        if sound_clashes::clashes(tables, keys, p, q) {
             return false;
         }
-        q += 1;
     }
     true
 }
@@ -50,29 +42,28 @@ pub fn names_sound(tables: &[u32]) -> bool
     requires { (length tables.now ≡ tables_length) × ((p : ℕ) → p < places → Spelled (record_at tables.now p)) }
     ensures { result ≡ all_below places (no_clashb tables.now) }
 {
-    let mut high = [0u64; PLACES];
-    let mut low = [0u64; PLACES];
-    let mut owned = [0u32; PLACES];
-    let mut public = [0u32; PLACES];
-    let mut p = 0;
-    while p < PLACES {
+    let mut keys = Keys {
+        high: [0; PLACES],
+        low: [0; PLACES],
+        owned: [0; PLACES],
+        public: [0; PLACES],
+    };
+    for p in 0..PLACES {
         let from = RECORDS_START + RECORD_LENGTH * p;
         if tables[from] == 0 {
-            p += 1;
             continue;
         }
         let to = from + RECORD_LENGTH;
         let row = &tables[from..to];
         let first = sound_keys::key(row, layout::RECORD_NAME);
         let second = sound_keys::key(row, SECOND_HALF);
-        high[p] = first;
-        low[p] = second;
-        owned[p] = sound_keys::short(first, second, row[layout::RECORD_OWNER]);
-        public[p] = sound_keys::public_short(first, second, row[layout::RECORD_PRIVATE]);
-        if !alone(tables, &high, &low, &owned, &public, p) {
+        keys.high[p] = first;
+        keys.low[p] = second;
+        keys.owned[p] = sound_keys::short(first, second, row[layout::RECORD_OWNER]);
+        keys.public[p] = sound_keys::public_short(first, second, row[layout::RECORD_PRIVATE]);
+        if !alone(tables, &keys, p) {
             return false;
         }
-        p += 1;
     }
     true
 }

@@ -5,22 +5,17 @@ use Rattle.std.proofs.Common.{sym}
 use Rattle.combine.specs.Laws.Below.{bool-ext}
 use Rattle.combine.specs.Rows.{all_of}
 use Rattle.combine.specs.Laws.Rows.{all-good, each_of}
-use Rattle.placing.specs.Placing.{held_of}
 use Rattle.tables.specs.declared.Opening.{Opening}
 use Rattle.tables.specs.Layout.{segments_in}
 use Rattle.tables.specs.Fields.{is_open, value_of}
-use Rattle.tables.specs.Records.{extentb, listb}
 use Rattle.tables.specs.Openings.{pointersb, openb}
 use Rattle.names.specs.Names.{opening_nameb}
+use Rattle.sound_extents.specs.Extent as extent
 use Rattle.sound_links.specs.Linked.{linkedb}
 
 -- its extent, and the list of the segments that it holds; n is the number of segments
 unfoldable pub contentb : ℕ → Opening → Bool
-contentb n o =
-    all_of
-    (extentb o.species (value_of o 0) (value_of o 1)
-    ∷ listb n (held_of o.species (value_of o 0) (value_of o 1)) o.segments
-    ∷ [])
+contentb n o = extent.contentb n o.species (value_of o 0) (value_of o 1) o.segments
 
 unfoldable pub openedb : List ℕ → ℕ → Opening → Bool
 openedb t i o =
@@ -34,7 +29,7 @@ openedb t i o =
     ∷ [])
 
 pub opened-open : (t : List ℕ) (i : ℕ) (o : Opening) → openedb t i o ≡ openb t i o
-unfolding openedb contentb linkedb openb
+unfolding openedb contentb extent.contentb linkedb openb
 opened-open t i o =
     bool-ext (openedb t i o) (openb t i o)
     (λ ok.

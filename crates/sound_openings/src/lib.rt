@@ -6,9 +6,8 @@ ghost use Rattle.placing.specs.Sizes.{entries, tables_length, name_symbols, open
 ghost use Rattle.tables.specs.Layout.{opening_of};
 ghost use Rattle.tables.specs.Openings.{pointersb, openb, openingb, openingsb};
 ghost use Rattle.names.specs.Names.{opening_nameb};
-ghost use Rattle.sound_openings.specs.Opened.{contentb};
 
-use placing::{ENTRIES, OPENING_LENGTH, OPENINGS_START, Position};
+use placing::{ENTRIES, OPENING_LENGTH, OPENINGS_START};
 use tables::layout;
 
 // "an opening's name is as a record's or all 63"
@@ -31,25 +30,6 @@ fn pointers_sound(row: &[u32]) -> bool
     row[layout::OPENING_WORK] >= 1
 }
 
-// "its species, begin, end and number of held segments are as for records", and so is the list of these
-fn content_sound(row: &[u32], segments: u32) -> bool
-    requires { length row.now ≡ opening_length }
-    ensures { result ≡ contentb segments (opening_of row.now) }
-{
-    let species = row[layout::OPENING_SPECIES];
-    let begin = row[layout::OPENING_BEGIN];
-    let end = row[layout::OPENING_END];
-    if !sound_extents::extent_sound(species, begin, end) {
-        return false;
-    }
-    let held = placing::held(species, Position::of(begin), Position::of(end));
-    sound_extents::list_sound(
-        &row[layout::OPENING_SEGMENTS..OPENING_LENGTH],
-        held as usize,
-        segments,
-    )
-}
-
 // An open entry: its own fields, and then its record.
 fn open_sound(tables: &[u32], entry: usize, row: &[u32]) -> bool
     requires { (length tables.now ≡ tables_length) × (length row.now ≡ opening_length) }
@@ -67,7 +47,14 @@ fn open_sound(tables: &[u32], entry: usize, row: &[u32]) -> bool
     if !title_sound(&row[layout::OPENING_NAME..layout::OPENING_SEGMENTS]) {
         return false;
     }
-    if !content_sound(row, tables[0]) {
+    // "its species, begin, end and number of held segments are as for records", and so is the list of these
+    if !sound_extents::content_sound(
+        row[layout::OPENING_SPECIES],
+        row[layout::OPENING_BEGIN],
+        row[layout::OPENING_END],
+        &row[layout::OPENING_SEGMENTS..OPENING_LENGTH],
+        tables[0],
+    ) {
         return false;
     }
     sound_links::link_sound(tables, entry, row)
@@ -91,12 +78,10 @@ pub fn openings_sound(tables: &[u32]) -> bool
     requires { length tables.now ≡ tables_length }
     ensures { result ≡ openingsb tables.now }
 {
-    let mut entry = 0;
-    while entry < ENTRIES {
+    for entry in 0..ENTRIES {
         if !opening_sound(tables, entry) {
             return false;
         }
-        entry += 1;
     }
     true
 }

@@ -10,7 +10,7 @@ use placing::{OPENING_LENGTH, RECORD_LENGTH};
 use tables::layout;
 
 // How many entries a user has.
-const ROW_ENTRIES: usize = placing::ROW_ENTRIES as usize;
+pub const ROW_ENTRIES: usize = placing::ROW_ENTRIES as usize;
 
 // "a read opening's record is public or its user's own"
 fn may_read(filed: &[u32], entry: usize) -> bool
@@ -40,14 +40,10 @@ pub fn read_sound(row: &[u32], filed: &[u32], entry: usize) -> bool
     if !may_read(filed, entry) {
         return false;
     }
-    if !combine::same_cells(
-        &row[layout::OPENING_NAME..layout::OPENING_SEGMENTS],
-        &filed[layout::RECORD_NAME..layout::RECORD_OWNER],
-    ) {
+    if row[layout::OPENING_NAME..layout::OPENING_SEGMENTS]
+        != filed[layout::RECORD_NAME..layout::RECORD_OWNER]
+    {
         return false;
     }
-    combine::same_cells(
-        &row[layout::OPENING_SEGMENTS..OPENING_LENGTH],
-        &filed[layout::RECORD_SEGMENTS..RECORD_LENGTH],
-    )
+    row[layout::OPENING_SEGMENTS..OPENING_LENGTH] == filed[layout::RECORD_SEGMENTS..RECORD_LENGTH]
 }

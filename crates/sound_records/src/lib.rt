@@ -7,7 +7,7 @@ ghost use Rattle.placing.specs.Sizes.{places, tables_length, record_length};
 ghost use Rattle.tables.specs.Layout.{record_of, record_at};
 ghost use Rattle.tables.specs.Records.{usedb, recordb, recordsb};
 
-use placing::{GREATEST_USER, PLACES, Position, RECORD_LENGTH, RECORDS_START};
+use placing::{GREATEST_USER, PLACES, RECORD_LENGTH, RECORDS_START};
 use tables::layout;
 
 fn used_sound(cells: &[u32], segments: u32) -> bool
@@ -26,16 +26,11 @@ fn used_sound(cells: &[u32], segments: u32) -> bool
     if cells[layout::RECORD_PRIVATE] > 1 {
         return false;
     }
-    let species = cells[layout::RECORD_SPECIES];
-    let begin = cells[layout::RECORD_BEGIN];
-    let end = cells[layout::RECORD_END];
-    if !sound_extents::extent_sound(species, begin, end) {
-        return false;
-    }
-    let held = placing::held(species, Position::of(begin), Position::of(end));
-    sound_extents::list_sound(
+    sound_extents::content_sound(
+        cells[layout::RECORD_SPECIES],
+        cells[layout::RECORD_BEGIN],
+        cells[layout::RECORD_END],
         &cells[layout::RECORD_SEGMENTS..RECORD_LENGTH],
-        held as usize,
         segments,
     )
 }
@@ -55,14 +50,11 @@ fn each_sound(tables: &[u32], segments: u32) -> bool
     requires { length tables.now ≡ tables_length }
     ensures { result ≡ all_below places (λ p. recordb segments (record_at tables.now p)) }
 {
-    let mut p = 0;
-    while p < PLACES {
+    for p in 0..PLACES {
         let from = RECORDS_START + RECORD_LENGTH * p;
-        let to = from + RECORD_LENGTH;
-        if !record_sound(&tables[from..to], segments) {
+        if !record_sound(&tables[from..from + RECORD_LENGTH], segments) {
             return false;
         }
-        p += 1;
     }
     true
 }

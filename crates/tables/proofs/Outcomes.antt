@@ -50,20 +50,21 @@ module _ (o : Opening) where
     unfolding new_pointer_rule
     new_none n = refuses (new_pointer_rule p (handle_in o)) 4 (refused-here 4 _ _ (tested ∙ n))
 
-    module _ (there : b ≡ false) (q : ℕ) (f : q ≡ lowest_free_pointer o) where
-      pub new-full : 7 < q → outcome_of (refused 21) o ≡ after (new_pointer_rule p (handle_in o))
+    module _ (there : b ≡ false) where
+      pub new-full : lowest_free_pointer o ≡ 8 → outcome_of (refused 21) o ≡ after (new_pointer_rule p (handle_in o))
       unfolding new_pointer_rule lowest_free_pointer
       new-full l = refuses (new_pointer_rule p (handle_in o)) 21 (went_on 4 _ _ _ (tested ∙ there) (refused-here 21 _ _ (lt-ltb 7 (lowest_free_pointer o) (omega arith))))
 
-      takes : q ≤ 7 → new_pointer_rule p (handle_in o) ≡ done (does (plain (lowest_free_pointer o)) (moved (handle_in o) (lowest_free_pointer o) (value (handle_in o) p)) stays)
-      unfolding new_pointer_rule lowest_free_pointer
-      takes l = went_on 4 _ _ _ (tested ∙ there) (went_on 21 _ _ _ (le-ltb 7 (lowest_free_pointer o) (omega arith)) refl)
+      module _ (q : ℕ) (f : q ≡ lowest_free_pointer o) where
+        takes : q ≤ 7 → new_pointer_rule p (handle_in o) ≡ done (does (plain (lowest_free_pointer o)) (moved (handle_in o) (lowest_free_pointer o) (value (handle_in o) p)) stays)
+        unfolding new_pointer_rule lowest_free_pointer
+        takes l = went_on 4 _ _ _ (tested ∙ there) (went_on 21 _ _ _ (le-ltb 7 (lowest_free_pointer o) (omega arith)) refl)
 
-      pub new-made : (x : Opening) → q ≤ 7 → x ≡ pointed o q v → outcome_of (done q) x ≡ after (new_pointer_rule p (handle_in o))
-      new-made x l e =
-          ap (λ (n : ℕ). outcome_of (done n) x) f
-          ∙ uses (new_pointer_rule p (handle_in o)) (lowest_free_pointer o) (moved (handle_in o) (lowest_free_pointer o) (value (handle_in o) p)) x (takes l)
-          (e ∙ (λ j. pointed o (f j) (position ((ev ∙ sym (value_in o p)) j))) ∙ sym (moved_in o (lowest_free_pointer o) (value (handle_in o) p)))
+        pub new-made : (x : Opening) → q ≤ 7 → x ≡ pointed o q v → outcome_of (done q) x ≡ after (new_pointer_rule p (handle_in o))
+        new-made x l e =
+            ap (λ (n : ℕ). outcome_of (done n) x) f
+            ∙ uses (new_pointer_rule p (handle_in o)) (lowest_free_pointer o) (moved (handle_in o) (lowest_free_pointer o) (value (handle_in o) p)) x (takes l)
+            (e ∙ (λ j. pointed o (f j) (position ((ev ∙ sym (value_in o p)) j))) ∙ sym (moved_in o (lowest_free_pointer o) (value (handle_in o) p)))
 
     -- ---- "Only 3 to 7 can be deleted."
 
@@ -95,4 +96,4 @@ module _ (o : Opening) where
   unfolding rename_rule
   rename-made n h = uses (rename_rule n (handle_in o)) 0 (named (handle_in o) n) (titled o n) (went_on 5 _ _ _ (rw (eq-eqb o.permit 1 h)) refl) (sym (named_in o n))
 
-pub ruleset pointing = (new_none, new-full, new-made, delete-none, delete-standard, delete-made)
+pub ruleset pointing = (new_none, delete-none, delete-standard, delete-made)

@@ -7,4 +7,5 @@ pub mod Openings
 pub mod Lists
 pub mod Sound
 pub mod Pointers
+pub mod Told
 pub mod Laws

@@ -1,16 +1,17 @@
-// The methods by value of an opening: each hands the opening back.
-ghost use Rattle.std.specs.Prelude.{◌≡◌, ◌≤◌};
+// The methods by value of an opening: each hands the opening back, or, where it can refuse, the number of its answer and the
+// opening as it is then; a refusal touches nothing.
+ghost use Rattle.std.specs.Prelude.{◌≡◌, ◌≤◌, MatchOption};
 ghost use Rattle.combine.specs.Verdict.{on_done};
-ghost use Rattle.combine.specs.Outcome.{outcome_of, settle};
-ghost use Rattle.answers.specs.Said.{said};
+ghost use Rattle.combine.specs.Outcome.{settle};
 ghost use Rattle.placing.specs.Placing.{position};
 ghost use Rattle.rules.specs.Access.{new_pointer_rule, delete_pointer_rule, rename_rule};
 ghost use Rattle.tables.specs.Fields.{value_of};
 ghost use Rattle.tables.specs.Handles.{handle_in, pointed, carried};
 ghost use Rattle.tables.specs.Pointers.{lowest_free_pointer};
+ghost use Rattle.tables.specs.Told.{answered};
 
-use crate::{Answered, Opening};
-use answers::{Answer, Refusal};
+use crate::Opening;
+use answers::Refusal;
 use placing::{FIRST_OWN_POINTER, GREATEST_POINTER, NAME_SYMBOLS, Position};
 
 // The number after the greatest pointer's.
@@ -46,84 +47,55 @@ impl Opening {
         self
     }
 
-    // The lowest name of an own pointer that is free; 8, where none is.
-    fn free_pointer(self) -> u32
-        ensures { result ≡ lowest_free_pointer self }
+    // The lowest name of an own pointer that is free.
+    fn free_pointer(self) -> Option<u32>
+        ensures { MatchOption result (lowest_free_pointer self ≡ 8) (λ p. (p ≡ lowest_free_pointer self) × (p ≤ 7)) }
     {
-        let mut pointer = FIRST_OWN_POINTER;
-        while pointer < BEYOND_POINTERS {
+        for pointer in FIRST_OWN_POINTER..BEYOND_POINTERS {
             if self.value(pointer).is_none() {
-                return pointer;
+                return Some(pointer);
             }
-            pointer += 1;
         }
-        pointer
+        None
     }
 
     // "A new own pointer takes the lowest free name, which is the answer, and the value of a given pointer."
-    pub fn new_pointer(self, pointer: u32) -> Answered
-        ensures { outcome_of (said result.answer) result.opening ≡ settle self (on_done (carried self) (new_pointer_rule pointer (handle_in self))) }
+    pub fn new_pointer(self, pointer: u32) -> Result<(u32, Opening), Refusal>
+        ensures { answered self result ≡ settle self (on_done (carried self) (new_pointer_rule pointer (handle_in self))) }
     {
         let given = self.value(pointer);
         if given.is_none() {
-            return Answered {
-                answer: Answer::Refused(Refusal::Pointer),
-                opening: self,
-            };
+            return Err(Refusal::Pointer);
         }
-        let free = self.free_pointer();
-        if GREATEST_POINTER < free {
-            return Answered {
-                answer: Answer::Refused(Refusal::Pointers),
-                opening: self,
-            };
-        }
-        let opening = self.step(free, given);
-        Answered {
-            answer: Answer::Done(free),
-            opening,
-        }
+        let Some(free) = self.free_pointer() else {
+            return Err(Refusal::Pointers);
+        };
+        Ok((free, self.step(free, given)))
     }
 
     // "Only 3 to 7 can be deleted."
-    pub fn delete_pointer(self, pointer: u32) -> Answered
-        ensures { outcome_of (said result.answer) result.opening ≡ settle self (on_done (carried self) (delete_pointer_rule pointer (handle_in self))) }
+    pub fn delete_pointer(self, pointer: u32) -> Result<(u32, Opening), Refusal>
+        ensures { answered self result ≡ settle self (on_done (carried self) (delete_pointer_rule pointer (handle_in self))) }
     {
         let value = self.value(pointer);
         if value.is_none() {
-            return Answered {
-                answer: Answer::Refused(Refusal::Pointer),
-                opening: self,
-            };
+            return Err(Refusal::Pointer);
         }
         if pointer < FIRST_OWN_POINTER {
-            return Answered {
-                answer: Answer::Refused(Refusal::Pointer),
-                opening: self,
-            };
+            return Err(Refusal::Pointer);
         }
         let none = Position::none();
-        let opening = self.step(pointer, none);
-        Answered {
-            answer: Answer::Done(0),
-            opening,
-        }
+        Ok((0, self.step(pointer, none)))
     }
 
     // "Renaming (needs the work permit) changes the opening's name only."
-    pub fn rename(mut self, name: [u32; NAME_SYMBOLS]) -> Answered
-        ensures { outcome_of (said result.answer) result.opening ≡ settle self (on_done (carried self) (rename_rule name (handle_in self))) }
+    pub fn rename(mut self, name: [u32; NAME_SYMBOLS]) -> Result<(u32, Opening), Refusal>
+        ensures { answered self result ≡ settle self (on_done (carried self) (rename_rule name (handle_in self))) }
     {
         if self.permit != 1 {
-            return Answered {
-                answer: Answer::Refused(Refusal::Permit),
-                opening: self,
-            };
+            return Err(Refusal::Permit);
         }
         self.name = name;
-        Answered {
-            answer: Answer::Done(0),
-            opening: self,
-        }
+        Ok((0, self))
     }
 }

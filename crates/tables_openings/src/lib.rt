@@ -1,7 +1,7 @@
-// An opening from its cells, and back.
+// An opening from its cells, and back: on tables_records, which has the same form, see there.
 #![tactic(auto)]
 
-ghost use Rattle.std.specs.Prelude.{◌≡◌, [], ◌∷◌, ◌<◌, length};
+ghost use Rattle.std.specs.Prelude.{◌≡◌, ◌<◌, length};
 ghost use Rattle.placing.specs.Sizes.{entries, tables_length, opening_length};
 ghost use Rattle.tables.specs.Layout.{opening_of, opening_cells, opening_at, put_opening};
 
@@ -37,17 +37,6 @@ pub fn load_opening(tables: &[u32], entry: usize) -> Opening
     opening_from(&tables[from..beyond])
 }
 
-// The four numbers before an opening's pointers.
-fn put_front(row: &mut [u32], opened: u32, place: u32, permit: u32, species: u32)
-    requires { length row.old ≡ 4 }
-    ensures { row.new ≡ opened ∷ place ∷ permit ∷ species ∷ [] }
-{
-    row[0] = opened;
-    row[1] = place;
-    row[2] = permit;
-    row[3] = species;
-}
-
 // The 56 cells become the opening's.
 fn put_opening_row(row: &mut [u32], opening: Opening)
     requires { length row.old ≡ opening_length }
@@ -56,13 +45,12 @@ fn put_opening_row(row: &mut [u32], opening: Opening)
     let pointers = opening.pointers;
     let name = opening.name;
     let segments = opening.segments;
-    put_front(
-        &mut row[0..layout::OPENING_POINTERS],
+    row[..layout::OPENING_POINTERS].copy_from_slice(&[
         opening.opened,
         opening.place,
         opening.permit,
         opening.species,
-    );
+    ]);
     tables_rows::put_pointers(
         &mut row[layout::OPENING_POINTERS..layout::OPENING_NAME],
         pointers,

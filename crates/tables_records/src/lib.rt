@@ -1,7 +1,9 @@
-// A record from its cells, and back.
+// A record from its cells, and back. This crate and tables_openings are alike in form only: over a trait of both kinds
+// of row the public functions, whose clauses name records or openings, would stand as they do, and the trait's ghost
+// laws beside them.
 #![tactic(auto)]
 
-ghost use Rattle.std.specs.Prelude.{◌≡◌, [], ◌∷◌, ◌<◌, length};
+ghost use Rattle.std.specs.Prelude.{◌≡◌, ◌<◌, length};
 ghost use Rattle.placing.specs.Sizes.{places, tables_length, record_length};
 ghost use Rattle.tables.specs.Layout.{record_of, record_cells, record_at, put_record};
 
@@ -39,25 +41,6 @@ pub fn load_record(tables: &[u32], place: usize) -> Record
     record_from(&tables[from..beyond])
 }
 
-// The five cells between a record's name and its segments.
-fn put_extent(
-    row: &mut [u32],
-    owner: u32,
-    private: u32,
-    species: u32,
-    begin: Position,
-    end: Position,
-)
-    requires { length row.old ≡ 5 }
-    ensures { row.new ≡ owner ∷ private ∷ species ∷ begin.0 ∷ end.0 ∷ [] }
-{
-    row[0] = owner;
-    row[1] = private;
-    row[2] = species;
-    row[3] = begin.number();
-    row[4] = end.number();
-}
-
 // The 50 cells become the record's.
 fn put_record_row(row: &mut [u32], filed: Record)
     requires { length row.old ≡ record_length }
@@ -65,19 +48,15 @@ fn put_record_row(row: &mut [u32], filed: Record)
 {
     let name = filed.name;
     let segments = filed.segments;
-    combine::fill_cells(
-        &mut row[layout::RECORD_USED..layout::RECORD_NAME],
-        filed.used,
-    );
+    row[layout::RECORD_USED] = filed.used;
     tables_rows::put_name(&mut row[layout::RECORD_NAME..layout::RECORD_OWNER], name);
-    put_extent(
-        &mut row[layout::RECORD_OWNER..layout::RECORD_SEGMENTS],
+    row[layout::RECORD_OWNER..layout::RECORD_SEGMENTS].copy_from_slice(&[
         filed.owner,
         filed.private,
         filed.species,
-        filed.begin,
-        filed.end,
-    );
+        filed.begin.number(),
+        filed.end.number(),
+    ]);
     tables_rows::put_segments(&mut row[layout::RECORD_SEGMENTS..RECORD_LENGTH], segments);
 }
 

@@ -1,22 +1,17 @@
 -- Rows of cells that are written part by part. Assumes nothing.
-use Prim.Native.Nat.{ℕ, ◌+◌, ◌-◌, ◌≤◌}
-use mathlib.Core.Path.{◌≡◌, sym, ap, ◌∙◌}
+use Prim.Native.Nat.{ℕ, ◌+◌, ◌≤◌}
+use mathlib.Core.Path.{◌≡◌, refl, sym, ap, ◌∙◌}
 use mathlib.Core.List.{List, [], ◌∷◌, ◌++◌, append-nil, append_assoc}
+use native.Mathlib.Nat.{not-suc-le-zero}
 use native.Mathlib.Omega.{arith}
-use lib.ListN.{length, take, drop, replicate, length-append, length-drop, drop_of_length-le}
-use lib.Seq.{length-take-le, sets, sets-eq, take_at, drop_at}
+use lib.ListN.{length, drop, set, length-append, length-drop, drop_of_length-le}
+use lib.Seq.{take_at, drop_at}
 use borrow.Rule.Slice.PartMut.{put_mid}
 
--- all of a row is written, cell by cell
-pub all_set : (vs l : List ℕ) → length l ≡ length vs → sets l 0 vs ≡ vs
-all_set vs l e =
-    sets-eq vs l 0 (omega arith)
-    ∙ ap (λ (r : List ℕ). vs ++ r) (drop_of_length-le l {i = 0 + length vs} (omega arith))
-    ∙ append-nil vs
-
--- one cell is filled
-pub one-filled : (row ys : List ℕ) (v : ℕ) → 1 ≤ length row → ys ≡ replicate (length (take 1 row)) v → ys ≡ v ∷ []
-one-filled row ys v l e = e ∙ ap (λ (n : ℕ). replicate n v) (length-take-le 1 row l)
+-- a row's first cell is written
+pub first-set : (row : List ℕ) (v : ℕ) → 1 ≤ length row → set row 0 v ≡ (v ∷ []) ++ drop 1 row
+first-set [] v l = absurd (not-suc-le-zero l)
+first-set (x ∷ row) v l = refl
 
 -- the part after what is written already
 put_next : (p rest ys : List ℕ) (a k : ℕ) → length p ≡ a → put_mid a k (p ++ rest) ys ≡ (p ++ ys) ++ drop k rest

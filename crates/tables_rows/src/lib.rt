@@ -12,28 +12,14 @@ pub fn segments_from(row: &[u32]) -> [Segment; LIST_LENGTH]
     requires { length row.now ≡ most_held }
     ensures { result ≡ map segment row.now }
 {
-    let mut segments = [Segment::of(0); LIST_LENGTH];
-    let mut i: usize = 0;
-    while i < LIST_LENGTH {
-        let found = Segment::of(row[i]);
-        segments[i] = found;
-        i += 1;
-    }
-    segments
+    std::array::from_fn(|i| Segment::of(row[i]))
 }
 
 pub fn pointers_from(row: &[u32]) -> [Position; ALL_POINTERS]
     requires { length row.now ≡ all_pointers }
     ensures { result ≡ map position row.now }
 {
-    let mut pointers = [Position::of(0); ALL_POINTERS];
-    let mut i: usize = 0;
-    while i < ALL_POINTERS {
-        let found = Position::of(row[i]);
-        pointers[i] = found;
-        i += 1;
-    }
-    pointers
+    std::array::from_fn(|i| Position::of(row[i]))
 }
 
 pub fn name_from(row: &[u32]) -> [u32; NAME_SYMBOLS]
@@ -41,19 +27,18 @@ pub fn name_from(row: &[u32]) -> [u32; NAME_SYMBOLS]
     ensures { result ≡ row.now }
 {
     let mut name = [0u32; NAME_SYMBOLS];
-    combine::copy_cells(row, &mut name);
+    name.copy_from_slice(row);
     name
 }
 
+// By a loop, as a copy of `segments.map(..)` took more than ten times as long. put_pointers is the same of the other
+// kind of number: one function over both would ask by clauses, of each caller, what its closure answers.
 pub fn put_segments(row: &mut [u32], segments: [Segment; LIST_LENGTH])
     requires { length row.old ≡ most_held }
     ensures { row.new ≡ map segment_number segments }
 {
-    let mut i: usize = 0;
-    while i < LIST_LENGTH {
-        let found = segments[i];
-        row[i] = found.number();
-        i += 1;
+    for (i, segment) in segments.iter().enumerate() {
+        row[i] = segment.number();
     }
 }
 
@@ -61,11 +46,8 @@ pub fn put_pointers(row: &mut [u32], pointers: [Position; ALL_POINTERS])
     requires { length row.old ≡ all_pointers }
     ensures { row.new ≡ map position_number pointers }
 {
-    let mut i: usize = 0;
-    while i < ALL_POINTERS {
-        let found = pointers[i];
-        row[i] = found.number();
-        i += 1;
+    for (i, pointer) in pointers.iter().enumerate() {
+        row[i] = pointer.number();
     }
 }
 
@@ -73,5 +55,5 @@ pub fn put_name(row: &mut [u32], name: [u32; NAME_SYMBOLS])
     requires { length row.old ≡ name_symbols }
     ensures { row.new ≡ name }
 {
-    combine::copy_cells(&name, row);
+    row.copy_from_slice(&name);
 }

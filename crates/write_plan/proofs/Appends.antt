@@ -1,4 +1,5 @@
 -- An append: the refusals 23, 10 and 8, one by one, as the code's steps give their premises. Assumes nothing.
+use Rattle.std.specs.Prelude.{Ok, Err}
 use Prim.Native.Nat.{ℕ, ◌+◌, ◌≤◌, ◌<◌}
 use mathlib.Core.Path.{◌≡◌, refl, sym, ap, ◌∙◌}
 use mathlib.Core.Bool.{Bool, true, false}
@@ -21,9 +22,8 @@ use Rattle.tables.specs.Fields.{value_of}
 use Rattle.tables.specs.Handles.{pointed}
 use Rattle.opening_steps.specs.Spans.{Spans, end-spans, end-holds}
 use Rattle.gate_laws.specs.Known.{Known}
-use Rattle.write_plan.specs.declared.Plan.{Plan}
-use Rattle.write_plan.specs.declared.Plan.TheVariants.{No, Drop, Put, Copy, Zero}
-use Rattle.write_plan.specs.Plans.{Seats, seat_verdict, append_verdict, Stores, Planned}
+use Rattle.write_plan.specs.declared.Plan.TheVariants.{Drop, Put, Copy, Zero}
+use Rattle.write_plan.specs.Plans.{Seats, seat_verdict, append_verdict, Stores, Decision, Planned}
 
 -- ---- a verdict that is the same has the same plan
 
@@ -31,28 +31,28 @@ module _ (t : List ℕ) (o : Opening) (p : ℕ) (a b : ℕ → Verdict Use) (e :
   stores_same : {k : ℕ} {g : Segment} → Stores t o p a k g → Stores t o p b k g
   stores_same f = record { seats = f.seats; place = f.place; which = f.which; range = f.range; told = λ n. e n ∙ f.told n }
 
-  pub planned-same : (x : Plan) → Planned t o p a x → Planned t o p b x
-  planned-same (No why) f = record { says = λ n. e n ∙ f.says n }
-  planned-same Drop f = record { says = record { first = f.says.first; some = f.says.some; told = λ n. e n ∙ f.says.told n } }
-  planned-same (Put g) f = record { says = record { into = stores_same f.says.into; there = f.says.there; held = f.says.held; alone = f.says.alone; cells = f.says.cells } }
-  planned-same (Copy k h g) f = record { says = record { into = stores_same f.says.into; source = f.says.source; cells = f.says.cells } }
-  planned-same (Zero k g) f = record { says = record { into = stores_same f.says.into; cells = f.says.cells } }
+  pub planned-same : (x : Decision) → Planned t o p a x → Planned t o p b x
+  planned-same (Err why) f = record { says = λ n. e n ∙ f.says n }
+  planned-same (Ok Drop) f = record { says = record { first = f.says.first; some = f.says.some; told = λ n. e n ∙ f.says.told n } }
+  planned-same (Ok (Put g)) f = record { says = record { into = stores_same f.says.into; there = f.says.there; held = f.says.held; alone = f.says.alone; cells = f.says.cells } }
+  planned-same (Ok (Copy k h g)) f = record { says = record { into = stores_same f.says.into; source = f.says.source; cells = f.says.cells } }
+  planned-same (Ok (Zero k g)) f = record { says = record { into = stores_same f.says.into; cells = f.says.cells } }
 
 -- ---- append: e is the end, t₂₃ says that the number is too wide, t₁₀ that no position is beyond the end
 
-pub append-wide : (t : List ℕ) (o : Opening) (t₂₃ : Bool) → t₂₃ ≡ true → Planned t o 1 (append_verdict t o t₂₃) (No Wide)
+pub append-wide : (t : List ℕ) (o : Opening) (t₂₃ : Bool) → t₂₃ ≡ true → Planned t o 1 (append_verdict t o t₂₃) (Err Wide)
 unfolding append_verdict
 append-wide t o t₂₃ w = record { says = λ n. refused-here 23 _ _ w }
 
 -- the position after the end exists
-pub append-after : (e : Position) (t₁₀ : Bool) → t₁₀ ≡ leb greatest_end e.0 → t₁₀ ≡ false → e.0 < greatest_end
+append-after : (e : Position) (t₁₀ : Bool) → t₁₀ ≡ leb greatest_end e.0 → t₁₀ ≡ false → e.0 < greatest_end
 append-after e t₁₀ e₁₀ l = most-not t₁₀ greatest_end e.0 e₁₀ l
 
 module _ (t : List ℕ) (o : Opening) (t₂₃ : Bool) (fits : t₂₃ ≡ false) (e : Position) (ee : e.0 ≡ value_of o 1) (t₁₀ : Bool) (e₁₀ : t₁₀ ≡ leb greatest_end e.0) where
   last-is : leb greatest_end (value_of o 1) ≡ t₁₀
   last-is = ap (leb greatest_end) (sym ee) ∙ sym e₁₀
 
-  pub append-full : t₁₀ ≡ true → Planned t o 1 (append_verdict t o t₂₃) (No Positions)
+  pub append-full : t₁₀ ≡ true → Planned t o 1 (append_verdict t o t₂₃) (Err Positions)
   unfolding append_verdict
   append-full l = record { says = λ n. went_on 23 _ _ _ fits (refused-here 10 _ _ (last-is ∙ l)) }
 
@@ -64,7 +64,7 @@ module _ (t : List ℕ) (o : Opening) (t₂₃ : Bool) (fits : t₂₃ ≡ false
       held-is : h ≡ held_of o.species (value_of o 0) (value_of o 1 + 1)
       held-is = eh ∙ end-holds o m w.file x em ∙ ap (λ (y : ℕ). held_of o.species (value_of o 0) y) (ex ∙ ap (λ (y : ℕ). y + 1) ee)
 
-      pub append-many : most_held < h → Planned t o 1 (append_verdict t o t₂₃) (No Segments)
+      pub append-many : most_held < h → Planned t o 1 (append_verdict t o t₂₃) (Err Segments)
       unfolding append_verdict
       append-many m =
           record {
@@ -84,11 +84,11 @@ module _ (t : List ℕ) (o : Opening) (t₂₃ : Bool) (fits : t₂₃ ≡ false
               small = omega (arith, held-is, held-behind o.species f.species (value_of o 0) f.first (value_of o 1) f.order);
             }
 
-        pub append-on : (y : Plan) → Planned t o 1 (seat_verdict t o 1) y → Planned t o 1 (append_verdict t o t₂₃) y
+        pub append-on : (y : Decision) → Planned t o 1 (seat_verdict t o 1) y → Planned t o 1 (append_verdict t o t₂₃) y
         unfolding append_verdict
         append-on y f =
             planned-same t o 1 (seat_verdict t o 1) (append_verdict t o t₂₃)
             (λ n. went_on 23 _ _ _ fits
             (went_on 10 _ _ _ (last-is ∙ l) (went_on 8 _ _ _ (le-ltb most_held (held_of o.species (value_of o 0) (value_of o 1 + 1)) (omega (arith, held-is))) refl))) y f
 
-pub ruleset appends = (append-after, append-wide, append-full, append-spans, append-many, append-seats, append-on)
+pub ruleset appends = (append-wide, append-full, append-spans, append-many, append-seats, append-on)

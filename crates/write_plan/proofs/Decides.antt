@@ -1,5 +1,6 @@
 -- The refusals of `write`, one by one, as the code's steps give their premises. Assumes nothing.
-use Prim.Native.Nat.{ℕ, ◌+◌, ◌≤◌}
+use Rattle.std.specs.Prelude.{Err}
+use Prim.Native.Nat.{ℕ, ◌+◌}
 use mathlib.Core.Path.{◌≡◌, refl, sym, ap, subst, ◌∙◌}
 use mathlib.Core.Bool.{Bool, true, false, not, ◌&&◌, cond}
 use mathlib.Core.List.{List}
@@ -22,10 +23,7 @@ use Rattle.tables.specs.Fields.{value_of}
 use Rattle.tables.specs.Handles.{handle_in}
 use Rattle.tables.specs.Laws.Pointers.{value_in}
 use Rattle.cells.specs.Says.{opening_in, house_of}
-use Rattle.opening_steps.specs.Bounds.{from-begin}
-use Rattle.write_plan.specs.declared.Plan.{Plan}
-use Rattle.write_plan.specs.declared.Plan.TheVariants.{No}
-use Rattle.write_plan.specs.Plans.{write_verdict, seat_verdict, append_verdict, inside_verdict, Planned}
+use Rattle.write_plan.specs.Plans.{write_verdict, seat_verdict, append_verdict, inside_verdict, Decision, Planned}
 use Rattle.write_plan.proofs.Appends.{planned-same}
 
 -- ---- the whole chain: k is the kind, w says that the number is too wide; v, b and e are the values of the pointer, of the begin and of the end
@@ -50,7 +48,7 @@ module _ (t : List ℕ) (o : Opening) (p : ℕ) (k w : Bool) where
   tests-are n v b e ev eb ee = λ i. tests n ((value_in o p ∙ sym ev) i) ((value_in o 0 ∙ sym eb) i) ((value_in o 1 ∙ sym ee) i)
 
   module _ (t₁₉ : Bool) (e₁₉ : t₁₉ ≡ is_foreign k o.species) where
-    pub write-foreign : t₁₉ ≡ true → Planned t o p (write_verdict t o p k w) (No Species)
+    pub write-foreign : t₁₉ ≡ true → Planned t o p (write_verdict t o p k w) (Err Species)
     unfolding tests
     write-foreign f = record { says = λ n. tests-are n _ _ _ refl refl refl ∙ refused-here 19 _ _ (sym e₁₉ ∙ f) }
 
@@ -61,15 +59,15 @@ module _ (t : List ℕ) (o : Opening) (p : ℕ) (k w : Bool) where
       unfolding tests
       of-kind n b e eb ee x h = tests-are n v b e ev eb ee ∙ went_on 19 _ _ _ (sym e₁₉ ∙ kind) h
 
-      pub write-none : t₄ ≡ true → Planned t o p (write_verdict t o p k w) (No Pointer)
+      pub write-none : t₄ ≡ true → Planned t o p (write_verdict t o p k w) (Err Pointer)
       write-none z = record { says = λ n. of-kind n _ _ refl refl _ (refused-here 4 _ _ (sym e₄ ∙ z)) }
 
       module _ (d : t₄ ≡ false) where
-        pub write-permit : (o.permit ≡ 1 → ⊥) → Planned t o p (write_verdict t o p k w) (No Permit)
+        pub write-permit : (o.permit ≡ 1 → ⊥) → Planned t o p (write_verdict t o p k w) (Err Permit)
         write-permit q = record { says = λ n. of-kind n _ _ refl refl _ (went_on 4 _ _ _ (sym e₄ ∙ d) (refused-here 5 _ _ (ap not (ne_eqb o.permit 1 q)))) }
 
         module _ (works : o.permit ≡ 1) (b : ℕ) (eb : b ≡ value_of o 0) (t₆ : Bool) (e₆ : t₆ ≡ ltb v b) where
-          pub write-below : t₆ ≡ true → Planned t o p (write_verdict t o p k w) (No Below)
+          pub write-below : t₆ ≡ true → Planned t o p (write_verdict t o p k w) (Err Below)
           write-below l =
               record { says = λ n. of-kind n b _ eb refl _ (went_on 4 _ _ _ (sym e₄ ∙ d) (went_on 5 _ _ _ (ap not (eq-eqb o.permit 1 works)) (refused-here 6 _ _ (sym e₆ ∙ l)))) }
 
@@ -92,7 +90,7 @@ module _ (t : List ℕ) (o : Opening) (p : ℕ) (k w : Bool) where
                     refuse 9 when takes_at (house_of t).records (opening_in o) v' && not (has_room (house_of t)) else
                     done (does (plain 0) (moved (handle_in o) p' (v' + 1)) (stores v' n))
 
-            pub write-append : p ≡ 1 → (x : Plan) → Planned t o 1 (append_verdict t o w) x → Planned t o p (write_verdict t o p k w) x
+            pub write-append : p ≡ 1 → (x : Decision) → Planned t o 1 (append_verdict t o w) x → Planned t o p (write_verdict t o p k w) x
             write-append h x f =
                 planned-same t o p (append_verdict t o w) (write_verdict t o p k w) (λ n. behind (value_of o 1) refl n _ (rest-append h n)) x
                 (subst (λ (q : ℕ). Planned t o q (append_verdict t o w) x) (sym h) f)
@@ -114,11 +112,7 @@ module _ (t : List ℕ) (o : Opening) (p : ℕ) (k w : Bool) where
                 by_first true = refl
                 by_first false = refl
 
-            pub write-inside : (p ≡ 1 → ⊥) → (x : Plan) → Planned t o p (inside_verdict t o p w) x → Planned t o p (write_verdict t o p k w) x
+            pub write-inside : (p ≡ 1 → ⊥) → (x : Decision) → Planned t o p (inside_verdict t o p w) x → Planned t o p (write_verdict t o p k w) x
             write-inside d x f = planned-same t o p (inside_verdict t o p w) (write_verdict t o p k w) (λ n. behind (value_of o 1) refl n _ (rest-inside d n)) x f
-
--- not below the begin
-pub write_low : (o : Opening) (p v b : ℕ) → v ≡ value_of o p → b ≡ value_of o 0 → (t₆ : Bool) → t₆ ≡ ltb v b → t₆ ≡ false → value_of o 0 ≤ value_of o p
-write_low o p v b ev eb t₆ e₆ low = let l = from-begin o v b eb t₆ e₆ low in omega arith
 
 pub ruleset decides = (write-foreign, write-none, write-permit, write-below, write-append, write-inside)

@@ -1,14 +1,16 @@
 -- The segment for the element that is written, as the code's steps give its premises. Assumes nothing.
+use Rattle.std.specs.Prelude.{Result, Ok, Err}
 use Prim.Native.Nat.{ℕ, ◌≤◌, ◌<◌}
-use mathlib.Core.Path.{◌≡◌, refl, sym, ap, ◌∙◌}
-use mathlib.Core.Bool.{Bool, true, false, not, ◌&&◌}
+use mathlib.Core.Path.{◌≡◌, refl, sym, ap, subst, ◌∙◌}
+use mathlib.Core.Bool.{Bool, true, false, not, ◌&&◌, cond}
 use mathlib.Core.List.{List}
 use native.Mathlib.Omega.{arith}
 use lib.Dec.{leb, ltb}
 use lib.ListN.{get_or}
-use borrow.Author.Tests.{le-leb, lt-leb, lt-ltb, le-ltb, not-true, not-false}
+use borrow.Author.Tests.{le-leb, lt-leb, lt-ltb, le-ltb, ltb-true, not-true, not-false}
 use Rattle.combine.specs.Laws.Below.{or_left}
 use Rattle.combine.specs.Laws.Verdict.{refused-here, went_on}
+use Rattle.answers.specs.declared.Refusal.{Refusal}
 use Rattle.answers.specs.declared.Refusal.TheVariants.{Room}
 use Rattle.placing.specs.declared.Segment.{Segment}
 use Rattle.placing.specs.declared.Position.{Position}
@@ -23,13 +25,56 @@ use Rattle.cells.specs.Says.{opening_in, house_of}
 use Rattle.opening_laws.specs.Shared.{shares_number, lacks-in, segment-in, shares-in}
 use Rattle.opening_steps.specs.Spans.{Spans, file-spans}
 use Rattle.gate_laws.specs.Known.{Known}
-use Rattle.write_plan.specs.declared.Plan.TheVariants.{No, Put, Copy, Zero}
-use Rattle.write_plan.specs.Plans.{Seats, seat_verdict, Stores, Planned}
+use Rattle.write_plan.specs.declared.Plan.TheVariants.{Put, Copy, Zero}
+use Rattle.write_plan.specs.Plans.{room_of, Seats, seat_verdict, Stores, Decision, Planned}
 
 -- a segment is free where the lowest free one is below their number
 room-is : (t : List ℕ) → has_room (house_of t) ≡ ltb (lowest_free (house_of t)) (segments_in t)
 unfolding house_of
 room-is t = refl
+
+module _ (t : List ℕ) where
+  room-by : (b : Bool) → has_room (house_of t) ≡ b → room_of t ≡ cond b (Ok (segment (lowest_free (house_of t)))) (Err Room)
+  unfolding room_of
+  room-by b h = rw h refl
+
+  -- the lowest free one, which was found
+  module _ (f : Segment) (ef : f ≡ segment (lowest_free (house_of t))) (n : ℕ) (en : n ≡ f.0) where
+    pub room-none : segments_in t ≤ n → Err Room ≡ room_of t
+    room-none l =
+        let q = ap segment_number ef in
+        sym (room-by false (room-is t ∙ le-ltb (lowest_free (house_of t)) (segments_in t) (omega arith)))
+
+    pub room-there : n < segments_in t → Ok f ≡ room_of t
+    room-there l =
+        let q = ap segment_number ef in
+        ap Ok ef ∙ sym (room-by true (room-is t ∙ lt-ltb (lowest_free (house_of t)) (segments_in t) (omega arith)))
+
+  -- what the room says
+  module _ (r : Result Segment Refusal) (er : r ≡ room_of t) where
+    full-by : (b : Bool) → has_room (house_of t) ≡ b → (why : Refusal) → r ≡ Err why → (why ≡ Room) × (has_room (house_of t) ≡ false)
+    full-by false h why at =
+        let q : ◌≡◌ {A = Result Segment Refusal} (Err why) (Err Room) = sym at ∙ er ∙ room-by false h in
+        let z : why ≡ Room = cc in (z, h)
+    full-by true h why at =
+        let q : ◌≡◌ {A = Result Segment Refusal} (Err why) (Ok (segment (lowest_free (house_of t)))) = sym at ∙ er ∙ room-by true h in
+        absurd (let z : ◌≡◌ {A = ℕ} 0 1 = cc in omega arith)
+
+    free-by : (b : Bool) → has_room (house_of t) ≡ b → (f : Segment) → r ≡ Ok f → (f ≡ segment (lowest_free (house_of t))) × (has_room (house_of t) ≡ true)
+    free-by true h f at =
+        let q : ◌≡◌ {A = Result Segment Refusal} (Ok f) (Ok (segment (lowest_free (house_of t)))) = sym at ∙ er ∙ room-by true h in
+        let z : f ≡ segment (lowest_free (house_of t)) = cc in (z, h)
+    free-by false h f at =
+        let q : ◌≡◌ {A = Result Segment Refusal} (Ok f) (Err Room) = sym at ∙ er ∙ room-by false h in
+        absurd (let z : ◌≡◌ {A = ℕ} 0 1 = cc in omega arith)
+
+    full : (why : Refusal) → r ≡ Err why → (why ≡ Room) × (has_room (house_of t) ≡ false)
+    full = full-by (has_room (house_of t)) refl
+
+    free : (f : Segment) → r ≡ Ok f → (f ≡ segment (lowest_free (house_of t))) × (has_room (house_of t) ≡ true)
+    free = free-by (has_room (house_of t)) refl
+
+pub ruleset rooms = (room-none, room-there)
 
 -- the store's cells before the element is put
 module _ (s : List ℕ) (h : SegmentHouse) (x : SegmentOpening) (v : ℕ) where
@@ -49,11 +94,13 @@ module _ (t : List ℕ) (o : Opening) (p : ℕ) (w : Known t o) (z : Seats o p) 
   takes : Bool
   takes = takes_at (house_of t).records (opening_in o) (value_of o p)
 
-  no_room : takes ≡ true → segments_in t ≤ lowest_free (house_of t) → Planned t o p (seat_verdict t o p) (No Room)
+  -- no segment is free; d is the decision
+  no_room : takes ≡ true → (r : Result Segment Refusal) → r ≡ room_of t → (why : Refusal) → r ≡ Err why → (d : Decision) → d ≡ Err why → Planned t o p (seat_verdict t o p) d
   unfolding seat_verdict takes
-  no_room a l =
-      let b : has_room (house_of t) ≡ false = room-is t ∙ le-ltb (lowest_free (house_of t)) (segments_in t) l in
-      record { says = λ n. refused-here 9 _ _ (rw (a, b) refl) }
+  no_room a r er why at d ed =
+      let f = full t r er why at in
+      let b = f.1 in
+      subst (λ (x : Decision). Planned t o p (seat_verdict t o p) x) (sym (ed ∙ ap Err f.0)) (record { says = λ n. refused-here 9 _ _ (rw (a, b) refl) })
 
   module _ (v : Position) (ev : v.0 ≡ value_of o p) (k : ℕ) (kv : k ≡ slot_of o.species (value_of o 0) v.0) where
     ek : k ≡ slot_of o.species (value_of o 0) (value_of o p)
@@ -66,26 +113,27 @@ module _ (t : List ℕ) (o : Opening) (p : ℕ) (w : Known t o) (z : Seats o p) 
     into g e l a = record { seats = z; place = ek; which = e; range = l; told = λ n. went_on 9 _ _ _ a refl }
 
     -- to the lowest free segment
-    module _ (f : Segment) (ef : f ≡ segment (lowest_free (house_of t))) (here : takes ≡ true) where
+    module _ (r : Result Segment Refusal) (er : r ≡ room_of t) (f : Segment) (at : r ≡ Ok f) (here : takes ≡ true) where
+      found : (f ≡ segment (lowest_free (house_of t))) × (has_room (house_of t) ≡ true)
+      found = free t r er f at
+
       target_free : segment (target (house_of t) (opening_in o) (value_of o p)) ≡ f
       unfolding target takes
-      target_free = rw here (sym ef)
+      target_free = rw here (sym found.0)
 
-      no-free : segments_in t ≤ f.0 → Planned t o p (seat_verdict t o p) (No Room)
-      no-free l = no_room here (let q = ap segment_number ef in omega arith)
-
-      into-free : f.0 < segments_in t → Stores t o p (seat_verdict t o p) k f
-      into-free l =
-          let q = ap segment_number ef in
-          let b : has_room (house_of t) ≡ true = room-is t ∙ lt-ltb (lowest_free (house_of t)) (segments_in t) (omega arith) in
-          into f (sym target_free) l (rw (here, b) refl)
+      into-free : Stores t o p (seat_verdict t o p) k f
+      into-free =
+          let q = ap segment_number found.0 in
+          let b = found.1 in
+          let l = ltb-true (lowest_free (house_of t)) (segments_in t) (sym (room-is t) ∙ b) in
+          into f (sym target_free) (omega arith) (rw (here, b) refl)
 
     module _ (h : ℕ) (eh : h ≡ held_of o.species (value_of o 0) (value_of o 1)) where
       lacking : lacks (opening_in o) (value_of o p) ≡ leb h k
       lacking = lacks-in o w.file (value_of o p) ∙ (λ i. leb (sym eh i) (sym ek i))
 
       -- the stretch has no segment
-      module _ (past : h ≤ k) (f : Segment) (ef : f ≡ segment (lowest_free (house_of t))) where
+      module _ (past : h ≤ k) where
         lacks-it : lacks (opening_in o) (value_of o p) ≡ true
         lacks-it = lacking ∙ le-leb h k past
 
@@ -93,17 +141,18 @@ module _ (t : List ℕ) (o : Opening) (p : ℕ) (w : Known t o) (z : Seats o p) 
         unfolding takes
         takes-it = or_left _ _ lacks-it
 
-        pub seat-no-room : (n : ℕ) → n ≡ f.0 → segments_in t ≤ n → Planned t o p (seat_verdict t o p) (No Room)
-        seat-no-room n en l = no-free f ef takes-it (omega arith)
+        module _ (r : Result Segment Refusal) (er : r ≡ room_of t) where
+          pub seat-no-room : (why : Refusal) → r ≡ Err why → (d : Decision) → d ≡ Err why → Planned t o p (seat_verdict t o p) d
+          seat-no-room = no_room takes-it r er
 
-        pub seat-zero : (n : ℕ) → n ≡ f.0 → n < segments_in t → Planned t o p (seat_verdict t o p) (Zero k f)
-        seat-zero n en l =
-            record {
-              says = record {
-                into = into-free f ef takes-it (omega arith);
-                cells = λ s. prepared-zero s (house_of t) (opening_in o) (value_of o p) lacks-it ∙ ap (zeroed s) (target_free f ef takes-it);
-              };
-            }
+          pub seat-zero : (f : Segment) → r ≡ Ok f → Planned t o p (seat_verdict t o p) (Ok (Zero k f))
+          seat-zero f at =
+              record {
+                says = record {
+                  into = into-free r er f at takes-it;
+                  cells = λ s. prepared-zero s (house_of t) (opening_in o) (value_of o p) lacks-it ∙ ap (zeroed s) (target_free r er f at takes-it);
+                };
+              }
 
       -- the stretch has the segment g; b says that it is the record's too
       module _ (inside : k < h) (g : Segment) (eg : g ≡ get_or o.segments k (segment 0)) (b : Bool) (eb : b ≡ shares_number t o g.0) where
@@ -125,7 +174,7 @@ module _ (t : List ℕ) (o : Opening) (p : ℕ) (w : Known t o) (z : Seats o p) 
         unfolding takes
         takes-b = rw (holds-it, shares-it) refl
 
-        pub seat-put : not b ≡ true → Planned t o p (seat_verdict t o p) (Put g)
+        pub seat-put : not b ≡ true → Planned t o p (seat_verdict t o p) (Ok (Put g))
         unfolding target takes
         seat-put n =
             let a : takes ≡ false = takes-b ∙ not-true b n in
@@ -141,20 +190,20 @@ module _ (t : List ℕ) (o : Opening) (p : ℕ) (w : Known t o) (z : Seats o p) 
               };
             }
 
-        module _ (n : not b ≡ false) (f : Segment) (ef : f ≡ segment (lowest_free (house_of t))) where
+        module _ (n : not b ≡ false) (r : Result Segment Refusal) (er : r ≡ room_of t) where
           takes-copy : takes ≡ true
           takes-copy = takes-b ∙ not-false b n
 
-          pub seat-no-copy : (m : ℕ) → m ≡ f.0 → segments_in t ≤ m → Planned t o p (seat_verdict t o p) (No Room)
-          seat-no-copy m em l = no-free f ef takes-copy (omega arith)
+          pub seat-no-copy : (why : Refusal) → r ≡ Err why → (d : Decision) → d ≡ Err why → Planned t o p (seat_verdict t o p) d
+          seat-no-copy = no_room takes-copy r er
 
-          pub seat-copy : (m : ℕ) → m ≡ f.0 → m < segments_in t → Planned t o p (seat_verdict t o p) (Copy k g f)
-          seat-copy m em l =
+          pub seat-copy : (f : Segment) → r ≡ Ok f → Planned t o p (seat_verdict t o p) (Ok (Copy k g f))
+          seat-copy f at =
               record {
                 says = record {
-                  into = into-free f ef takes-copy (omega arith);
+                  into = into-free r er f at takes-copy;
                   source = seat-range;
-                  cells = λ s. prepared_copy s (house_of t) (opening_in o) (value_of o p) holds-it (shares-it ∙ not-false b n) ∙ (λ i. copied s (sym own i) (target_free f ef takes-copy i));
+                  cells = λ s. prepared_copy s (house_of t) (opening_in o) (value_of o p) holds-it (shares-it ∙ not-false b n) ∙ (λ i. copied s (sym own i) (target_free r er f at takes-copy i));
                 };
               }
 

@@ -1,6 +1,8 @@
 -- The call `write`: what a plan says of the verdict, and that it can be carried out. Assumes nothing.
-use Rattle.std.specs.Prelude.{ℕ, ◌+◌, ◌≤◌, ◌<◌, ◌≡◌, Bool, false, ◌&&◌, not, cond, List, leb, ltb, eqb, get_or}
+use Rattle.std.specs.Prelude.{ℕ, ◌+◌, ◌≤◌, ◌<◌, ◌≡◌, Bool, false, ◌&&◌, not, cond, List, leb, ltb, eqb, get_or, Result, Ok, Err}
 use Rattle.combine.specs.Verdict.{Verdict, refused, done, refuse◌when◌else◌}
+use Rattle.answers.specs.declared.Refusal.{Refusal}
+use Rattle.answers.specs.declared.Refusal.TheVariants.{Room}
 use Rattle.answers.specs.Said.{refusal_number}
 use Rattle.placing.specs.declared.Segment.{Segment}
 use Rattle.placing.specs.Sizes.{most_held, greatest_end}
@@ -9,7 +11,7 @@ use Rattle.store.specs.Store.{zeroed, copied}
 use Rattle.rules.specs.Headings.{moved}
 use Rattle.rules.specs.Effects.{first_leaves, stores, plain, Use, does}
 use Rattle.rules.specs.Access.{write_rule}
-use Rattle.segments.specs.Free.{has_room}
+use Rattle.segments.specs.Free.{lowest_free, has_room}
 use Rattle.segments.specs.Deeds.{takes_at, target, prepared}
 use Rattle.tables.specs.declared.Opening.{Opening}
 use Rattle.tables.specs.Layout.{segments_in}
@@ -18,7 +20,11 @@ use Rattle.tables.specs.Handles.{handle_in}
 use Rattle.cells.specs.Says.{opening_in, house_of}
 use Rattle.opening_laws.specs.Shared.{shares_number}
 use Rattle.write_plan.specs.declared.Plan.{Plan}
-use Rattle.write_plan.specs.declared.Plan.TheVariants.{No, Drop, Put, Copy, Zero}
+use Rattle.write_plan.specs.declared.Plan.TheVariants.{Drop, Put, Copy, Zero}
+
+-- the segment that is taken, or "no room: a segment needed, none free"
+unfoldable pub room_of : List ℕ → Result Segment Refusal
+room_of t = cond (has_room (house_of t)) (Ok (segment (lowest_free (house_of t)))) (Err Room)
 
 -- the position of pointer p has a place in the list, or the next behind it
 pub record Seats (o : Opening) (p : ℕ) : Type 0 where
@@ -94,12 +100,16 @@ pub record Zeroes (t : List ℕ) (o : Opening) (p : ℕ) (verdict : ℕ → Verd
   pub into : Stores t o p verdict k g
   pub cells : (s : List ℕ) → prepared_for t o p s ≡ zeroed s g
 
-abbrev pub Says : List ℕ → Opening → ℕ → (ℕ → Verdict Use) → Plan → Type 0
-Says t o p verdict (No why) = (n : ℕ) → verdict n ≡ refused (refusal_number why)
-Says t o p verdict Drop = Drops o p verdict
-Says t o p verdict (Put g) = Puts t o p verdict g
-Says t o p verdict (Copy k f g) = Copies t o p verdict k f g
-Says t o p verdict (Zero k g) = Zeroes t o p verdict k g
+-- what is to be done, or why nothing is
+abbrev pub Decision : Type 0
+Decision = Result Plan Refusal
 
-pub record Planned (t : List ℕ) (o : Opening) (p : ℕ) (verdict : ℕ → Verdict Use) (plan : Plan) : Type 0 where
-  pub says : Says t o p verdict plan
+abbrev pub Says : List ℕ → Opening → ℕ → (ℕ → Verdict Use) → Decision → Type 0
+Says t o p verdict (Err why) = (n : ℕ) → verdict n ≡ refused (refusal_number why)
+Says t o p verdict (Ok Drop) = Drops o p verdict
+Says t o p verdict (Ok (Put g)) = Puts t o p verdict g
+Says t o p verdict (Ok (Copy k f g)) = Copies t o p verdict k f g
+Says t o p verdict (Ok (Zero k g)) = Zeroes t o p verdict k g
+
+pub record Planned (t : List ℕ) (o : Opening) (p : ℕ) (verdict : ℕ → Verdict Use) (decision : Decision) : Type 0 where
+  pub says : Says t o p verdict decision

@@ -1,14 +1,10 @@
 -- Laws of answers/specs/Said.antt. Assumes nothing.
-use Rattle.std.specs.Prelude.{ℕ, ◌-◌, ◌≡◌, refl, ◌≢◌, [], ◌∷◌, ℤ, get_or}
+use Rattle.std.specs.Prelude.{ℕ, ◌-◌, ◌≡◌, refl, ◌≢◌, [], ◌∷◌, ℤ, get_or, Err, Ok}
 use Rattle.std.proofs.Common.{sym, ap, ◌∙◌, arith}
 use Rattle.answers.specs.declared.Refusal.{Refusal}
 use Rattle.answers.specs.declared.Refusal.TheVariants as R
-use Rattle.answers.specs.declared.Answer.{Answer}
-use Rattle.answers.specs.declared.Answer.TheVariants.{Done, Refused}
-use Rattle.answers.specs.declared.SignedAnswer.{SignedAnswer}
-use Rattle.answers.specs.declared.SignedAnswer.TheVariants as S
+use Rattle.answers.specs.Said.{Answer, SignedAnswer, refusal_number, said, said_signed}
 use Rattle.combine.specs.Verdict.{Verdict, Said, refused, done}
-use Rattle.answers.specs.Said.{refusal_number, said, said_signed}
 
 -- ---- there is one answer that says it
 
@@ -50,25 +46,25 @@ twelve-is-none r e =
     omega arith
 
 answer_of : Said → Answer
-answer_of (done n) = Done n
-answer_of (refused n) = Refused (refusal_of n)
+answer_of (done n) = Ok n
+answer_of (refused n) = Err (refusal_of n)
 
 answer-of : (a : Answer) → answer_of (said a) ≡ a
 unfolding answer_of
-answer-of (Done n) = refl
-answer-of (Refused r) = ap Refused (refusal-of r)
+answer-of (Ok n) = refl
+answer-of (Err r) = ap Err (refusal-of r)
 
 pub one_answer : (a b : Answer) → said a ≡ said b → a ≡ b
 one_answer a b e = sym (answer-of a) ∙ ap answer_of e ∙ answer-of b
 
 signed_answer_of : Verdict ℤ → SignedAnswer
-signed_answer_of (done z) = S.Done z
-signed_answer_of (refused n) = S.Refused (refusal_of n)
+signed_answer_of (done z) = Ok z
+signed_answer_of (refused n) = Err (refusal_of n)
 
 signed-answer-of : (a : SignedAnswer) → signed_answer_of (said_signed a) ≡ a
 unfolding signed_answer_of
-signed-answer-of (S.Done z) = refl
-signed-answer-of (S.Refused r) = ap S.Refused (refusal-of r)
+signed-answer-of (Ok z) = refl
+signed-answer-of (Err r) = ap Err (refusal-of r)
 
 pub one-signed-answer : (a b : SignedAnswer) → said_signed a ≡ said_signed b → a ≡ b
 one-signed-answer a b e = sym (signed-answer-of a) ∙ ap signed_answer_of e ∙ signed-answer-of b

@@ -1,15 +1,10 @@
 -- `call_ask::symbol` meets its contract. Assumes nothing.
-use Rattle.call_ask.proofs.Laws.{inquiring, within}
+use Rattle.std.proofs.Common.{◌≡◌, Err, rules}
+use Rattle.rules.specs.Calls.{ask_symbol}
+use Rattle.call_ask.proofs.Laws.{refused-at-gate}
 use Rattle.call_ask.proofs.symbol.Goals as goal
 
-pub returns-then-k-gt-LAST_SYMBOL : goal.returns-then-k-gt-LAST_SYMBOL
-returns-then-k-gt-LAST_SYMBOL c = search inquiring
-
-pub field-requires : goal.field-requires
-field-requires c = search within
-
-pub returns-in-No : goal.returns-in-No
-returns-in-No c = search inquiring
-
-pub returns-else-k-gt-LAST_SYMBOL : goal.returns-else-k-gt-LAST_SYMBOL
-returns-else-k-gt-LAST_SYMBOL c = search inquiring
+pub returns-in_err-at : goal.returns-in_err-at
+returns-in_err-at c =
+    let z : c.from_residual.result ≡ Err c.in_err-at.field-0.0 = search rules in
+    rw z (refused-at-gate c.args.store.now _ _ _ _ c.reach.ensures (ask_symbol c.args.k) _ c.in_err-at.was)

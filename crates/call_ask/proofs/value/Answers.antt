@@ -1,18 +1,10 @@
 -- `call_ask::value` meets its contract. Assumes nothing.
-use Rattle.call_ask.proofs.Laws.{within, inquiring}
+use Rattle.std.proofs.Common.{◌≡◌, Err, rules}
+use Rattle.rules.specs.Calls.{ask_value}
+use Rattle.call_ask.proofs.Laws.{refused-at-gate}
 use Rattle.call_ask.proofs.value.Goals as goal
 
-pub returns-then-pointer-gt-GREATEST_POINTER : goal.returns-then-pointer-gt-GREATEST_POINTER
-returns-then-pointer-gt-GREATEST_POINTER c = search inquiring
-
-pub value_at-found-requires : goal.value_at-found-requires
-value_at-found-requires c = search within
-
-pub returns-then-is_none : goal.returns-then-is_none
-returns-then-is_none c = search inquiring
-
-pub returns-in-No : goal.returns-in-No
-returns-in-No c = search inquiring
-
-pub returns-else-is_none : goal.returns-else-is_none
-returns-else-is_none c = search inquiring
+pub returns-in_err-at : goal.returns-in_err-at
+returns-in_err-at c =
+    let z : c.from_residual.result ≡ Err c.in_err-at.field-0.0 = search rules in
+    rw z (refused-at-gate c.args.store.now _ _ _ _ c.reach.ensures (ask_value c.args.pointer) _ c.in_err-at.was)

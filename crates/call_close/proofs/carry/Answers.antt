@@ -1,5 +1,5 @@
 -- `call_close::carry` meets its contract. Assumes nothing.
-use Rattle.call_close.proofs.Carried.{unfiles-inside, files-inside, carried-no, carried-ends, carried-unfiles, carried-files}
+use Rattle.call_close.proofs.Carried.{unfiles-inside, files-inside, carried-ends, carried-unfiles, carried-files}
 use Rattle.call_close.proofs.carry.Goals as goal
 
 pub put_record-requires : goal.put_record-requires
@@ -9,10 +9,6 @@ put_record-requires c =
 pub put_record-requires-in-Files : goal.put_record-requires-in-Files
 put_record-requires-in-Files c =
     (c.requires.0, files-inside c.args.plan c.requires.2 _ _ c.in-Files.is)
-
-pub returns-in-No : goal.returns-in-No
-returns-in-No c =
-    let a = c.args in carried-no a.tables.now a.at a.user a.opening a.plan _ c.in-No.is
 
 pub returns-in-Ends : goal.returns-in-Ends
 returns-in-Ends c =

@@ -1,24 +1,28 @@
+-- `call_fill_run::advance` meets its contract. Assumes nothing.
+use mathlib.Core.Path.{◌≡◌}
 use borrow.Author.Rules.{rules}
-use Rattle.call_fill_run.proofs.Turns.{far-follows, turns}
+use Rattle.std.specs.Prelude.{Err}
+use Rattle.call_fill_run.proofs.Turns.{far-follows, turns, reading-stops}
 use Rattle.call_fill_run.proofs.advance.Goals as goal
 
 pub load_opening-opening-requires : goal.load_opening-opening-requires
 load_opening-opening-requires c = search (turns, rules)
 
-pub forward-reading-requires : goal.forward-reading-requires
-forward-reading-requires c = search (turns, rules)
+pub forward-requires : goal.forward-requires
+forward-requires c = search (turns, rules)
+
+pub returns-in_err-reading : goal.returns-in_err-reading
+returns-in_err-reading c =
+    let z : c.from_residual.result ≡ Err c.in_err-reading.field-0.0 = search rules in
+    reading-stops _ _ _ _ c.requires.0 _ c.load_opening-opening.ensures _ _ _ c.forward.ensures _ c.in_err-reading.was _ z
 
 pub how_far-count-requires : goal.how_far-count-requires
-how_far-count-requires c = search (turns, rules)
-
-pub single-requires : goal.single-requires
-single-requires c = search (turns, rules)
+how_far-count-requires c = search (turns, rules, c.in_ok-reading.was)
 
 pub take_stretch-requires : goal.take_stretch-requires
-take_stretch-requires c = (search (turns, rules), search (turns, rules), search (turns, rules), search (turns, rules), search rules, search rules, search (far-follows, rules))
+take_stretch-requires c =
+    let at = c.in_ok-reading.was in
+    (search (turns, rules, at), search (turns, rules, at), search (turns, rules, at), search (turns, rules, at), search rules, search rules, search (far-follows, rules))
 
-pub returns-in-No : goal.returns-in-No
-returns-in-No c = search (turns, rules)
-
-pub returns-else-count-eq0 : goal.returns-else-count-eq0
-returns-else-count-eq0 c = search (turns, rules)
+pub returns : goal.returns
+returns c = search (turns, rules, c.in_ok-reading.was)

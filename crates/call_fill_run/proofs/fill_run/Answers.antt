@@ -1,12 +1,10 @@
+-- `call_fill_run::fill_run` meets its contract. Assumes nothing.
 use borrow.Author.Rules.{rules}
-use Rattle.call_fill_run.proofs.Admits.{calls}
+use Rattle.call_fill_run.proofs.Admits.{handing}
 use Rattle.call_fill_run.proofs.fill_run.Goals as goal
 
-pub admit-requires : goal.admit-requires
-admit-requires c = search (calls, rules)
+pub returns-in-Ok : goal.returns-in-Ok
+returns-in-Ok c = search (handing, rules)
 
-pub returns-in-No : goal.returns-in-No
-returns-in-No c = search (calls, rules)
-
-pub returns-in-At : goal.returns-in-At
-returns-in-At c = search (calls, rules)
+pub returns-in-Err : goal.returns-in-Err
+returns-in-Err c = search (handing, rules)

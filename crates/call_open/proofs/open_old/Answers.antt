@@ -1,5 +1,5 @@
 -- `call_open::open_old` meets its contract. Assumes nothing.
-use mathlib.Core.Path.{subst}
+use Rattle.std.proofs.Common.{◌≡◌, Err, rules, subst}
 use Rattle.open_choice.specs.Chosen.{There}
 use Rattle.call_open.specs.Ways.{way_of}
 use Rattle.gate_laws.specs.Behind.{passed-long, passed-few}
@@ -7,30 +7,26 @@ use Rattle.call_open.proofs.Entry.{vacant-not, vacant-at}
 use Rattle.call_open.proofs.Opened.{old-refused, old-done}
 use Rattle.call_open.proofs.open_old.Goals as goal
 
-pub choose-choice-requires : goal.choose-choice-requires
-choose-choice-requires c =
-    let a = c.args in
-    passed-long (vacant-at a.store.now a.tables.now a.user a.entry _ c.vacant-gate.ensures _ c.in-At.is).passed
+pub choose-requires : goal.choose-requires
+choose-requires c = passed-long (vacant-at _ _ _ _ _ c.vacant.ensures _ c.in_ok-at.was).passed
 
 pub open_record-requires : goal.open_record-requires
 open_record-requires c =
-    let a = c.args in
-    let v = vacant-at a.store.now a.tables.now a.user a.entry _ c.vacant-gate.ensures _ c.in-At.is in
-    (passed-long v.passed, passed-few v.passed, (subst (There a.tables.now) c.in-At-choice.is c.choose-choice.ensures.there).0)
+    let v = vacant-at _ _ _ _ _ c.vacant.ensures _ c.in_ok-at.was in
+    (passed-long v.passed, passed-few v.passed, (subst (There c.args.tables.now) c.in_ok-place.was c.choose.ensures.there).0)
 
-pub returns-in-No : goal.returns-in-No
-returns-in-No c =
-    let a = c.args in
-    vacant-not a.store.now a.tables.now a.user a.entry _ c.vacant-gate.ensures (way_of a.work a.name.now) _ c.in-No.is
+pub returns-in_err-at : goal.returns-in_err-at
+returns-in_err-at c =
+    let z : c.from_residual.result ≡ Err c.in_err-at.field-0.0 = search rules in
+    vacant-not _ _ _ _ _ c.vacant.ensures (way_of c.args.work c.args.name.now) _ c.in_err-at.was _ z
 
-pub returns-in-No-choice : goal.returns-in-No-choice
-returns-in-No-choice c =
-    let a = c.args in
-    let v = vacant-at a.store.now a.tables.now a.user a.entry _ c.vacant-gate.ensures _ c.in-At.is in
-    old-refused a.store.now a.tables.now a.user a.entry _ v a.work a.name.now _ c.name_of-symbols.ensures _ c.choose-choice.ensures.verdict _ c.in-No-choice.is
+pub returns-in_err-place : goal.returns-in_err-place
+returns-in_err-place c =
+    let z : c.from_residual-in_err-place.result ≡ Err c.in_err-place.field-0.0 = search rules in
+    let v = vacant-at _ _ _ _ _ c.vacant.ensures _ c.in_ok-at.was in
+    old-refused _ _ _ _ _ v _ c.args.name.now _ c.name_of-symbols.ensures _ c.choose.ensures.verdict _ c.in_err-place.was _ z
 
-pub returns-in-At-choice : goal.returns-in-At-choice
-returns-in-At-choice c =
-    let a = c.args in
-    let v = vacant-at a.store.now a.tables.now a.user a.entry _ c.vacant-gate.ensures _ c.in-At.is in
-    old-done a.store.now a.tables.now a.user a.entry _ v a.work a.name.now _ c.name_of-symbols.ensures _ c.choose-choice.ensures.verdict _ c.in-At-choice.is c.choose-choice.ensures.there _ c.open_record.ensures
+pub returns : goal.returns
+returns c =
+    let v = vacant-at _ _ _ _ _ c.vacant.ensures _ c.in_ok-at.was in
+    old-done _ _ _ _ _ v _ c.args.name.now _ c.name_of-symbols.ensures _ c.choose.ensures.verdict _ c.in_ok-place.was c.choose.ensures.there _ c.open_record.ensures

@@ -1,23 +1,14 @@
 -- `call_pointers::reset` meets its contract. Assumes nothing.
-use mathlib.Core.Path.{refl, ap}
-use Rattle.combine.specs.Verdict.{done}
-use Rattle.combine.specs.Outcome.{outcome_of}
-use Rattle.answers.specs.declared.Answer.TheVariants.{Done}
+use Rattle.std.proofs.Common.{◌≡◌, Err, rules}
 use Rattle.rules.specs.Calls.{reset}
-use Rattle.call_pointers.proofs.Laws.{refused-at-gate, long-behind, entry-behind, reset-settles, put_back}
+use Rattle.call_pointers.proofs.Laws.{refused-at-gate, was-reset}
 use Rattle.call_pointers.proofs.reset.Goals as goal
 
-pub load_opening-opening-requires : goal.load_opening-opening-requires
-load_opening-opening-requires c = (long-behind c.args.store.now c.args.tables.now c.args.user c.args.entry _ c.reach-reached.ensures _ c.in-At.is, entry-behind c.args.store.now c.args.tables.now c.args.user c.args.entry _ c.reach-reached.ensures _ c.in-At.is)
+pub returns-in_err-at : goal.returns-in_err-at
+returns-in_err-at c =
+    let z : c.from_residual.result ≡ Err c.in_err-at.field-0.0 = search rules in
+    rw z (refused-at-gate c.args.store.now _ _ _ _ c.reach.ensures reset _ c.in_err-at.was)
 
-pub put_opening-requires : goal.put_opening-requires
-put_opening-requires c = (long-behind c.args.store.now c.args.tables.now c.args.user c.args.entry _ c.reach-reached.ensures _ c.in-At.is, entry-behind c.args.store.now c.args.tables.now c.args.user c.args.entry _ c.reach-reached.ensures _ c.in-At.is)
-
-pub returns-in-No : goal.returns-in-No
-returns-in-No c = refused-at-gate c.args.store.now c.args.tables.now c.args.user c.args.entry _ c.reach-reached.ensures _ _ c.in-No.is
-
-pub returns-in-At : goal.returns-in-At
-returns-in-At c =
-    let o = c.load_opening-opening.result in
-    put_back c.args.store.now c.args.tables.now c.args.user c.args.entry _ c.reach-reached.ensures _ c.in-At.is reset refl o c.reset.result (Done 0) (Done 0) c.put_opening.new.tables c.load_opening-opening.ensures
-    (reset-settles o c.reset.result c.reset.ensures) (ap (outcome_of (done 0)) c.put_opening.ensures)
+pub returns : goal.returns
+returns c =
+    was-reset c.args.store.now _ _ _ _ c.reach.ensures _ c.in_ok-at.was _ _ c.load_opening-opening.ensures c.reset.ensures _ c.put_opening.ensures

@@ -1,14 +1,9 @@
 -- `call_up_down::reaches` meets its contract: all records before `p` passed the test. Assumes nothing.
-use Prim.Native.Nat.{◌≤◌, ◌-◌}
 use mathlib.Core.Path.{◌≡◌}
 use mathlib.Core.Bool.{true}
 use Rattle.combine.specs.Below.{all_below}
-use Rattle.placing.specs.Sizes.{places}
 use Rattle.call_up_down.proofs.Reach.{within}
 use Rattle.call_up_down.proofs.reaches.Given as goal
 
 abbrev pub invariant-loop-p : goal.invariant-loop-p
-invariant-loop-p l = (l.p ≤ places) × (all_below l.p (within l.tables l.greatest) ≡ true)
-
-abbrev pub decreases-loop-p : goal.decreases-loop-p
-decreases-loop-p l = places - l.p
+invariant-loop-p l = all_below l.p (within l.tables l.greatest) ≡ true

@@ -1,12 +1,9 @@
-use Rattle.gate_laws.specs.Gated.{use-standing}
-use Rattle.call_write_run.proofs.Going.{calls}
+-- `call_write_run::write_run` meets its contract. Assumes nothing.
+use Rattle.call_write_run.proofs.Going.{handing}
 use Rattle.call_write_run.proofs.write_run.Goals as goal
 
-pub admit-requires : goal.admit-requires
-admit-requires c = search use-standing
+pub returns-in-Ok : goal.returns-in-Ok
+returns-in-Ok c = search handing
 
-pub returns-in-No : goal.returns-in-No
-returns-in-No c = search calls
-
-pub returns-in-At : goal.returns-in-At
-returns-in-At c = search calls
+pub returns-in-Err : goal.returns-in-Err
+returns-in-Err c = search handing

@@ -1,6 +1,5 @@
 -- `catalogue_search::fits` meets its contract. Assumes nothing.
-use mathlib.Core.Path.{◌∙◌}
-use Rattle.combine.specs.Laws.Below.{was-false, was-true}
+use mathlib.Core.Path.{sym, ◌∙◌}
 use Rattle.catalogue_search.proofs.Fitting.{not-used, not-concerned, as-named}
 use Rattle.catalogue_search.proofs.fits.Goals as goal
 
@@ -10,10 +9,10 @@ returns-then-row-ne1 c = not-used _ _ c.if-row-ne1.true
 pub returns-then-not-concerns : goal.returns-then-not-concerns
 returns-then-not-concerns c =
     let a = c.args in
-    not-concerned a.wanted a.name.now a.row.now c.if-row-ne1.false (was-false c.if-not-concerns.true-raw c.concerns.ensures)
+    not-concerned a.wanted a.name.now a.row.now c.if-row-ne1.false (sym c.concerns.ensures ∙ c.if-not-concerns.true)
 
 pub returns : goal.returns
 returns c =
     let a = c.args in
-    c.same_cells.ensures
-    ∙ as-named a.wanted a.name.now a.row.now c.if-row-ne1.false (was-true c.if-not-concerns.false-raw c.concerns.ensures)
+    c.eq.ensures
+    ∙ as-named a.wanted a.name.now a.row.now c.if-row-ne1.false (sym c.concerns.ensures ∙ c.if-not-concerns.false)

@@ -2,9 +2,8 @@
 -- Assumes nothing.
 use Rattle.std.specs.Prelude.{ℕ, ◌≡◌, refl, false, List}
 use Rattle.std.proofs.Common.{sym, ap, ◌∙◌}
-use Rattle.answers.specs.declared.Answer.{Answer}
+use Rattle.answers.specs.Said.{Answer, said}
 use Rattle.combine.specs.Verdict.{is_done}
-use Rattle.answers.specs.Said.{said}
 use Rattle.answers.specs.Laws.Said.{one_answer}
 use Rattle.combine.specs.Outcome.{Outcome, outcome_of}
 use Rattle.combine.specs.Laws.Outcome.{refusal-keeps}

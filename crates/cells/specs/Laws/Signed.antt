@@ -6,7 +6,7 @@ use Rattle.combine.specs.Verdict.{done}
 use Rattle.combine.specs.Outcome.{outcome_of}
 use Rattle.numbers.specs.Numbers.{signed_bits, out_of_range}
 use Rattle.numbers.specs.Laws.Numbers.{signed_back}
-use Rattle.answers.specs.declared.SignedAnswer.{SignedAnswer}
+use Rattle.answers.specs.Said.{SignedAnswer}
 use Rattle.answers.specs.Laws.Said.{one-signed-answer}
 use Rattle.cells.specs.Outcomes.{Lent}
 use Rattle.cells.specs.Signed.{SignedOutcome, signed_outcome, read_signed}

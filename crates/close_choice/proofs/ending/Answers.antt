@@ -15,14 +15,14 @@ returns-then-permit-ne1 c = record {
   range = tt;
 }
 
-pub returns-then-place-eq0 : goal.returns-then-place-eq0
-returns-then-place-eq0 c = record {
-  verdict = λ u o. scratch-ends _ _ _ u o c.if-public.false c.if-permit-ne1.false c.if-place-eq0.true;
+pub returns-in-None : goal.returns-in-None
+returns-in-None c = record {
+  verdict = λ u o. scratch-ends _ _ _ u o c.if-public.false c.if-permit-ne1.false (omega arith);
   range = tt;
 }
 
-pub returns : goal.returns
-returns c = record {
-  verdict = λ u o. record_freed _ _ _ u o c.if-public.false c.if-permit-ne1.false c.if-place-eq0.false;
+pub returns-in-Some : goal.returns-in-Some
+returns-in-Some c = record {
+  verdict = λ u o. record_freed _ _ _ u o c.if-public.false c.if-permit-ne1.false _ c.in-Some.ensures;
   range = omega arith;
 }

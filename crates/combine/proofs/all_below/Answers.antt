@@ -1,21 +1,29 @@
--- `combine::all_below` meets its contract: the sum is zero where all cells before `i` pass the test, and fits by their number. Assumes nothing.
-use Prim.Native.Nat.{ℕ, ◌-◌}
-use mathlib.Core.Path.{◌≡◌, sym, ap, ◌∙◌}
+-- `combine::all_below` meets its contract: `beyond` is zero where all cells before this one pass the test, and fits
+-- by their number. Assumes nothing.
+use Prim.Native.Nat.{ℕ}
+use mathlib.Core.Path.{◌≡◌, sym}
+use mathlib.Core.Bool.{Bool, not}
 use native.Mathlib.Omega.{arith}
-use lib.ListN.{length, get_or}
-use lib.Dec.{ltb}
-use Rattle.combine.specs.Below.{all_below}
+use Rattle.std.proofs.lemmas.Bool.Decides.{nat_tests}
+use lib.ListN.{get_or}
+use lib.Dec.{leb, ltb}
+use Rattle.combine.specs.Laws.Any.{byte-few}
 use Rattle.combine.specs.Laws.Below.{all-zero}
-use Rattle.combine.proofs.Turns.{sum-turn}
+use Rattle.combine.proofs.Hits.{hits-turn}
 use Rattle.combine.proofs.all_below.Goals as goal
 
-pub loop-i-init : goal.loop-i-init
-loop-i-init c = (omega arith, omega arith, sym (all-zero _))
+below : (cell bound : ℕ) → not (leb bound cell) ≡ ltb cell bound
+below cell bound = grind (arith, nat_tests)
 
-pub loop-i-preserved : goal.loop-i-preserved
-loop-i-preserved c =
-    let l = c.loop-i in (omega arith, omega arith, sum-turn (λ k. ltb (get_or c.args.cells.now k 0) c.args.bound) l.i l.sum _ c.beyond-sum.ensures.0 l.invariant.2)
+pub loop-cell-init : goal.loop-cell-init
+loop-cell-init c = (omega arith, sym (all-zero _))
 
-pub returns : goal.returns
-returns c =
-    let cells = c.args.cells.now in let e : c.loop-i.i ≡ length cells = omega arith in c.loop-i.invariant.2 ∙ ap (λ (n : ℕ). all_below n (λ k. ltb (get_or cells k 0) c.args.bound)) e
+pub overflow_add-beyond : goal.overflow_add-beyond
+overflow_add-beyond c = omega (arith, byte-few)
+
+pub loop-cell-preserved : goal.loop-cell-preserved
+loop-cell-preserved c =
+    let l = c.loop-cell in
+    let cell : ℕ → ℕ = λ k. get_or c.args.cells.now k 0 in
+    let hit : ℕ → Bool = λ k. leb c.args.bound (cell k) in
+    (omega (arith, byte-few), hits-turn hit (λ k. ltb (cell k) c.args.bound) l.cell-index l.beyond (below _ _) l.invariant.1)

@@ -1,11 +1,9 @@
 -- Laws of door/specs/Handed.antt: from an answer to its number and back. Assumes nothing.
-use Rattle.std.specs.Prelude.{ℕ, ◌+◌, ◌-◌, ◌<◌, ◌≡◌, refl, ◌↔◌}
+use Rattle.std.specs.Prelude.{ℕ, ◌+◌, ◌-◌, ◌<◌, ◌≡◌, refl, ◌↔◌, Err, Ok}
 use Rattle.std.proofs.Math.Path.{sym, ap}
 use Rattle.std.proofs.Common.{subst, ◌∙◌, ⊎_elim, arith, lt-ltb, le-ltb}
 use Rattle.answers.specs.declared.Refusal.{Refusal}
-use Rattle.answers.specs.declared.Answer.{Answer}
-use Rattle.answers.specs.declared.Answer.TheVariants.{Done, Refused}
-use Rattle.answers.specs.Said.{refusal_number, said}
+use Rattle.answers.specs.Said.{Answer, refusal_number, said}
 use Rattle.answers.specs.Laws.Said.{one_answer}
 use Rattle.combine.specs.Verdict.{Said, done, refused}
 use Rattle.combine.specs.Outcome.{Outcome, outcome_of}
@@ -62,18 +60,18 @@ pub one-packed : (a b : Answer) → Packs (said a) → Packs (said b) → packed
 one-packed = one_of packed unpacked Packs unpacked-packed said one_answer
 
 module _ (a : Answer) (m : ℕ) (e : unpacked m ≡ said a) where
-  pub answer-done : (n : ℕ) → (a ≡ Done n) ↔ ((m ≡ n) × (n < first_refused))
+  pub answer-done : (n : ℕ) → (a ≡ Ok n) ↔ ((m ≡ n) × (n < first_refused))
   answer-done n =
-      (λ p. (number-done m n).0 (e ∙ ap said p), λ h. one_answer a (Done n) (sym e ∙ (number-done m n).1 h))
+      (λ p. (number-done m n).0 (e ∙ ap said p), λ h. one_answer a (Ok n) (sym e ∙ (number-done m n).1 h))
 
   -- n is a number of the table
-  pub answer-refused : (n : ℕ) → ((r : Refusal) × (refusal_number r ≡ n) × (a ≡ Refused r)) ↔ (m ≡ first_refused + n)
+  pub answer-refused : (n : ℕ) → ((r : Refusal) × (refusal_number r ≡ n) × (a ≡ Err r)) ↔ (m ≡ first_refused + n)
   answer-refused n =
       (λ t. (number-refused m n).0 (e ∙ ap said t.2 ∙ ap refused t.1), λ h. inside a (sym e ∙ (number-refused m n).1 h))
     where
-      inside : (b : Answer) → said b ≡ refused n → (r : Refusal) × (refusal_number r ≡ n) × (b ≡ Refused r)
-      inside (Done k) p = let z : ◌≡◌ {A = ℕ} 0 1 = cc in absurd (let w : ⊥ = omega arith in w)
-      inside (Refused r) p = (r, (cc), refl)
+      inside : (b : Answer) → said b ≡ refused n → (r : Refusal) × (refusal_number r ≡ n) × (b ≡ Err r)
+      inside (Ok k) p = let z : ◌≡◌ {A = ℕ} 0 1 = cc in absurd (let w : ⊥ = omega arith in w)
+      inside (Err r) p = (r, (cc), refl)
 
 -- ---- outcomes
 
@@ -91,5 +89,3 @@ module _ {S : Type 0} where
   pub hand : (a : Answer) (x : S) (o : Outcome S) (n : ℕ) → unpacked n ≡ said a → outcome_of (said a) x ≡ o → handed n x ≡ o
   unfolding handed
   hand a x o n p q = ap (λ b. outcome_of b x) p ∙ q
-
-pub ruleset hands = (hand)

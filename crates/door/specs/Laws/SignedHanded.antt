@@ -1,8 +1,7 @@
 -- Laws of door/specs/SignedHanded.antt: from a signed answer to its number and back. Assumes nothing.
-use Rattle.std.specs.Prelude.{ℕ, ◌+◌, ◌<◌, ◌≡◌, refl, ◌↔◌, List, ℤ, pos, negsuc}
+use Rattle.std.specs.Prelude.{ℕ, ◌+◌, ◌≡◌, refl, ◌↔◌, List, ℤ, pos, negsuc}
 use Rattle.std.proofs.Common.{sym, ap, ◌∙◌}
-use Rattle.answers.specs.declared.SignedAnswer.{SignedAnswer}
-use Rattle.answers.specs.Said.{said_signed}
+use Rattle.answers.specs.Said.{SignedAnswer, said_signed}
 use Rattle.answers.specs.Laws.Said.{one-signed-answer}
 use Rattle.combine.specs.Verdict.{Verdict, Said, done, refused, on_done}
 use Rattle.cells.specs.Outcomes.{Lent, lent}

@@ -1,8 +1,8 @@
 use Rattle.history_buffers.specs.Laws.{lines}
 use Rattle.history_buffers.proofs.peek_line.Goals as goal
 
-pub returns-in-Is : goal.returns-in-Is
-returns-in-Is c = search lines
+pub returns-in_default : goal.returns-in_default
+returns-in_default c = search (lines, c.in_default.ensures)
 
-pub returns-in-Bad : goal.returns-in-Bad
-returns-in-Bad c = search lines
+pub returns : goal.returns
+returns c = search (lines, c.in-Some.ensures)

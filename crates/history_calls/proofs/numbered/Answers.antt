@@ -1,26 +1,20 @@
 use Rattle.history_calls.specs.Telling.{counted}
 use Rattle.history_calls.proofs.numbered.Goals as goal
 
-pub returns-then-same : goal.returns-then-same
-returns-then-same c = search counted
+pub returns-in-One : goal.returns-in-One
+returns-in-One c = search counted
 
-pub returns-then-same-2 : goal.returns-then-same-2
-returns-then-same-2 c = search counted
+pub returns-in-None : goal.returns-in-None
+returns-in-None c = search (counted, c.in-None.ensures)
 
-pub returns-in-Zero : goal.returns-in-Zero
-returns-in-Zero c = search counted
+pub returns-in-None-of_three_word : goal.returns-in-None-of_three_word
+returns-in-None-of_three_word c = search (counted, c.in-None-of_three_word.ensures)
 
-pub returns-else-same : goal.returns-else-same
-returns-else-same c = search counted
+pub returns-in-Four : goal.returns-in-Four
+returns-in-Four c = search counted
 
-pub returns-in-Two : goal.returns-in-Two
-returns-in-Two c = search counted
+pub returns-in_default : goal.returns-in_default
+returns-in_default c = search counted
 
-pub returns-in-Three : goal.returns-in-Three
-returns-in-Three c = search counted
-
-pub returns-else-same-2 : goal.returns-else-same-2
-returns-else-same-2 c = search counted
-
-pub returns-in-Bad : goal.returns-in-Bad
-returns-in-Bad c = search counted
+pub returns-in_default-2 : goal.returns-in_default-2
+returns-in_default-2 c = search counted

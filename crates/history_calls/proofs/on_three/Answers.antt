@@ -27,6 +27,3 @@ returns-in-NextSigned c = search known
 
 pub returns-in-PrevSigned : goal.returns-in-PrevSigned
 returns-in-PrevSigned c = search known
-
-pub returns-in-Unknown : goal.returns-in-Unknown
-returns-in-Unknown c = search known

@@ -27,6 +27,3 @@ returns-in-Begin c = search known
 
 pub returns-in-End : goal.returns-in-End
 returns-in-End c = search known
-
-pub returns-in-Unknown : goal.returns-in-Unknown
-returns-in-Unknown c = search known

@@ -1,23 +1,11 @@
 use Rattle.history_desk.specs.Speaking.{call-lines}
 use Rattle.history_desk.proofs.call_line.Goals as goal
 
-pub returns-in-Save : goal.returns-in-Save
-returns-in-Save c = search call-lines
+pub returns-in_default : goal.returns-in_default
+returns-in_default c = search (call-lines, c.in_default.ensures)
 
-pub returns-in-Load : goal.returns-in-Load
-returns-in-Load c = search call-lines
+pub returns-in_default-numbers_at : goal.returns-in_default-numbers_at
+returns-in_default-numbers_at c = search (call-lines, c.in-Some.ensures, c.in_default-numbers_at.ensures)
 
-pub returns-in-Writes : goal.returns-in-Writes
-returns-in-Writes c = search call-lines
-
-pub returns-in-Nexts : goal.returns-in-Nexts
-returns-in-Nexts c = search call-lines
-
-pub returns-in-Up : goal.returns-in-Up
-returns-in-Up c = search call-lines
-
-pub returns-in-Down : goal.returns-in-Down
-returns-in-Down c = search call-lines
-
-pub returns-in-Unknown : goal.returns-in-Unknown
-returns-in-Unknown c = search call-lines
+pub returns : goal.returns
+returns c = search (call-lines, c.in-Some.ensures, c.in-Some-numbers_at.ensures)

@@ -1,18 +1,27 @@
-use native.Mathlib.Omega.{arith}
-use Rattle.history_words.specs.Laws.{digit_low, digit-high, digits-large, digits-on, digits-end}
+use Rattle.std.proofs.Common.{arith, ◌∙◌, sym}
+use Rattle.history_words.specs.Laws.{no-digit, digits-large, digits-on, digits-end}
 use Rattle.history_words.proofs.digits.Goals as goal
 
-pub returns-then-byte-lt48 : goal.returns-then-byte-lt48
-returns-then-byte-lt48 c = digit_low c.args.word.now c.loop-i.value c.loop-i.i c.loop-i.invariant.0 (omega arith) (omega arith)
+pub returns-then-not-is_ascii_digit : goal.returns-then-not-is_ascii_digit
+returns-then-not-is_ascii_digit c =
+    no-digit c.args.word.now c.loop-byte.value c.loop-byte.byte-index c.loop-byte.invariant (omega arith) (sym c.is_ascii_digit.ensures.value ∙ c.if-not-is_ascii_digit.true)
 
-pub returns-then-byte-gt57 : goal.returns-then-byte-gt57
-returns-then-byte-gt57 c = digit-high c.args.word.now c.loop-i.value c.loop-i.i c.loop-i.invariant.0 (omega arith) (omega arith)
+pub returns-in_err-checked_mul : goal.returns-in_err-checked_mul
+returns-in_err-checked_mul c =
+    c.from_residual.ensures
+    ∙ digits-large c.args.word.now c.loop-byte.value c.loop-byte.byte-index c.loop-byte.invariant (omega arith) (sym c.is_ascii_digit.ensures.value ∙ c.if-not-is_ascii_digit.false)
+    (omega (arith, c.in_err-checked_mul.ensures))
 
-pub returns-then-next-gt4294967295 : goal.returns-then-next-gt4294967295
-returns-then-next-gt4294967295 c = digits-large c.args.word.now c.loop-i.value c.loop-i.i c.loop-i.invariant.0 (omega arith) (omega arith) (omega arith) (omega arith)
+pub returns-in_err-value : goal.returns-in_err-value
+returns-in_err-value c =
+    c.from_residual-in_err-value.ensures
+    ∙ digits-large c.args.word.now c.loop-byte.value c.loop-byte.byte-index c.loop-byte.invariant (omega arith) (sym c.is_ascii_digit.ensures.value ∙ c.if-not-is_ascii_digit.false)
+    (omega (arith, c.in_err-value.ensures))
 
-pub loop-i-preserved : goal.loop-i-preserved
-loop-i-preserved c = (digits-on _ _ _ c.loop-i.invariant.0 (omega arith) (omega arith) (omega arith) (omega arith), omega arith)
+pub loop-byte-preserved : goal.loop-byte-preserved
+loop-byte-preserved c =
+    digits-on c.args.word.now c.loop-byte.value c.loop-byte.byte-index c.loop-byte.invariant (omega arith) (sym c.is_ascii_digit.ensures.value ∙ c.if-not-is_ascii_digit.false) _
+    (omega (arith, c.in_ok-value.ensures)) (omega (arith, c.in_ok-checked_mul.ensures, c.in_ok-value.ensures))
 
 pub returns : goal.returns
-returns c = digits-end c.args.word.now c.loop-i.value c.loop-i.i c.loop-i.invariant.0 (omega arith)
+returns c = digits-end c.args.word.now c.loop-byte.value c.loop-byte.byte-index c.loop-byte.invariant (omega arith)

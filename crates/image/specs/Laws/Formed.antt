@@ -1,5 +1,5 @@
 -- What holds of every form of image: the round trips are proved of any form of which it holds. Assumes nothing.
-use Rattle.std.specs.Prelude.{ℕ, ◌+◌, ◌-◌, ◌*◌, ◌^◌, ◌≤◌, ◌<◌, ◌≡◌, refl, Bool, true, cond, List, [], ◌∷◌, leb, ltb, length, get_or}
+use Rattle.std.specs.Prelude.{ℕ, ◌+◌, ◌-◌, ◌*◌, ◌^◌, ◌≤◌, ◌<◌, ◌≡◌, refl, true, cond, List, [], ◌∷◌, leb, ltb, length, get_or}
 use Rattle.std.proofs.Common.{ap, ◌∙◌, leb-true, lit<, length-append}
 use Rattle.combine.specs.Below.{all_below}
 use Rattle.combine.specs.Laws.Below.{all-at}

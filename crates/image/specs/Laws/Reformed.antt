@@ -1,5 +1,5 @@
 -- Laws of image/specs/Reformed.antt. Assumes nothing.
-use Rattle.std.specs.Prelude.{ℕ, ◌*◌, ◌≤◌, ◌≡◌, Bool, true, false, List, [], ◌∷◌, leb}
+use Rattle.std.specs.Prelude.{ℕ, ◌*◌, ◌≡◌, Bool, false, List, [], ◌∷◌, leb}
 use Rattle.std.proofs.Common.{ap, arith, leb-true, le-leb}
 use Rattle.combine.specs.Rows.{all_of}
 use Rattle.combine.specs.Laws.Below.{bool-ext}

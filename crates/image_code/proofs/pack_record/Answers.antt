@@ -18,16 +18,16 @@ use Rattle.image_code.proofs.pack_record.Goals as goal
 pub slice_bounds-pack-end : goal.slice_bounds-pack-end
 slice_bounds-pack-end c =
     let form = c.args.form in
-    let row : List ℕ = c.copy_cells.new.to in
-    let long : length row ≡ record_length = ap length c.copy_cells.ensures ∙ c.requires.0 in
+    let row : List ℕ = c.copy_from_slice.new.self in
+    let long : length row ≡ record_length = ap length c.copy_from_slice.ensures.after ∙ c.requires.0 in
     let inside : c.count.result ≤ length (row ++ 0 ∷ []) = omega (arith, c.count.ensures, row-many (form_of form) (formed form), (few-zeros form).0, length-append row (0 ∷ []), long) in
     inside
 
 pub pack-requires : goal.pack-requires
 pack-requires c =
     let form = c.args.form in
-    let row : List ℕ = c.copy_cells.new.to in
-    let same : row ≡ c.args.values.now = c.copy_cells.ensures in
+    let row : List ℕ = c.copy_from_slice.new.self in
+    let same : row ≡ c.args.values.now = c.copy_from_slice.ensures.after in
     let long : length row ≡ record_length = ap length same ∙ c.requires.0 in
     let taken = row-taken form row (c.count.result - 0) long (omega (arith, c.count.ensures)) in
     let widths = c.requires.3 in (
@@ -41,8 +41,8 @@ pub returns : goal.returns
 unfolding packed_record
 returns c =
     let form = c.args.form in
-    let row : List ℕ = c.copy_cells.new.to in
-    let same : row ≡ c.args.values.now = c.copy_cells.ensures in
+    let row : List ℕ = c.copy_from_slice.new.self in
+    let same : row ≡ c.args.values.now = c.copy_from_slice.ensures.after in
     let taken = row-taken form row (c.count.result - 0) (ap length same ∙ c.requires.0) (omega (arith, c.count.ensures)) in
     c.pack.ensures ∙ (λ j. cells_of (c.requires.1 j) (packed (c.requires.3 j) (taken j)))
     ∙ ap (λ (x : List ℕ). cells_of (form_of form).cells (packed (row_widths (form_of form)) (x ++ zeros_of (form_of form)))) same

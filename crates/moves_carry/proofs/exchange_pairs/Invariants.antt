@@ -1,5 +1,5 @@
 -- `moves_carry::exchange_pairs` meets its contract: the numbers are exchanged by the pairs that were read. Assumes nothing.
-use Prim.Native.Nat.{◌-◌, ◌*◌, ◌≤◌}
+use Prim.Native.Nat.{◌*◌, ◌≤◌}
 use mathlib.Core.Path.{◌≡◌}
 use lib.ListN.{length, drop}
 use Rattle.moves_carry.proofs.Turns.{Maps}
@@ -7,6 +7,3 @@ use Rattle.moves_carry.proofs.exchange_pairs.Given as goal
 
 abbrev pub invariant-loop-pair : goal.invariant-loop-pair
 invariant-loop-pair l = (2 * l.pair ≤ length l.plan) × (length l.numbers ≡ 1024) × Maps l.numbers (drop (2 * l.pair) l.plan)
-
-abbrev pub decreases-loop-pair : goal.decreases-loop-pair
-decreases-loop-pair l = l.pair

@@ -1,12 +1,8 @@
--- `moves_carry::identity` meets its contract. Assumes nothing.
-use Prim.Native.Nat.{◌-◌, ◌≤◌}
+-- `moves_carry::identity` meets its contract: each number below `number` is itself. Assumes nothing.
+use Prim.Native.Nat.{ℕ, ◌<◌}
 use mathlib.Core.Path.{◌≡◌}
-use lib.ListN.{length}
-use Rattle.moves_carry.proofs.Turns.{Itself}
+use lib.ListN.{length, get_or}
 use Rattle.moves_carry.proofs.identity.Given as goal
 
 abbrev pub invariant-loop-number : goal.invariant-loop-number
-invariant-loop-number l = (l.number ≤ 1024) × (length l.numbers ≡ 1024) × Itself l.number l.numbers
-
-abbrev pub decreases-loop-number : goal.decreases-loop-number
-decreases-loop-number l = 1024 - l.number
+invariant-loop-number l = (length l.numbers ≡ 1024) × ((g : ℕ) → g < l.number → get_or l.numbers g 0 ≡ g)

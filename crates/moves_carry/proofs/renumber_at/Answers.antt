@@ -1,5 +1,4 @@
 -- `moves_carry::renumber_at` meets its contract. Assumes nothing.
-use Prim.Native.Nat.{◌-◌}
 use native.Mathlib.Omega.{arith}
 use Rattle.tables.specs.Layout.{segments_in}
 use Rattle.moves_carry.specs.Numbers.{mapped}

@@ -1,14 +1,9 @@
--- `names::put_symbols` meets its contract. Assumes nothing.
-use native.Mathlib.Omega.{arith}
-use Rattle.names.proofs.Put.{put-few, put_all}
+-- `names::put_symbols` meets its contract: the places that both have are copied. Assumes nothing.
+use borrow.Author.Rules.{rules}
+use Rattle.names.proofs.Put.{put-shared}
 use Rattle.names.proofs.put_symbols.Goals as goal
-
-pub returns-then-places-lt-NAME_SYMBOLS : goal.returns-then-places-lt-NAME_SYMBOLS
-returns-then-places-lt-NAME_SYMBOLS c =
-    let a = c.args in
-    put-few a.name a.row.now (omega arith) (omega arith) c.copy_cells.ensures
 
 pub returns : goal.returns
 returns c =
     let a = c.args in
-    put_all a.name a.row.now (omega arith) (omega arith) c.copy_cells-2.ensures
+    put-shared a.name a.row.now c.min-places.result (search rules) c.min-places.ensures c.copy_from_slice.ensures.after

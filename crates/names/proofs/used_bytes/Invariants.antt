@@ -1,11 +1,6 @@
 -- `names::used_bytes` meets its contract: `Counting` says that the bytes before `i` are used. Assumes nothing.
-use Prim.Native.Nat.{◌-◌}
-use lib.ListN.{length}
 use Rattle.names.proofs.Counted.{Counting}
 use Rattle.names.proofs.used_bytes.Given as goal
 
 abbrev pub invariant-loop-i : goal.invariant-loop-i
 invariant-loop-i l = Counting l.bytes l.left l.i
-
-abbrev pub decreases-loop-i : goal.decreases-loop-i
-decreases-loop-i l = length l.bytes - l.i

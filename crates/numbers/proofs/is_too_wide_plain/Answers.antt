@@ -9,4 +9,4 @@ pub overflow_shl-limit : goal.overflow_shl-limit
 overflow_shl-limit c = width-most c.args.species c.width.result c.requires c.width.ensures
 
 pub returns : goal.returns
-returns c = ap (λ (l : ℕ). leb l c.args.number) (limit_is c.args.species c.width.result c.requires c.width.ensures)
+returns c = rw c.from.ensures (ap (λ (l : ℕ). leb l c.args.number) (limit_is c.args.species c.width.result c.requires c.width.ensures))

@@ -1,23 +1,15 @@
-use Prim.Native.Nat.{◌-◌}
-use mathlib.Core.Path.{◌≡◌, refl, ap}
+-- `opening_steps::from_second` meets its contract. Assumes nothing.
+use mathlib.Core.Path.{◌≡◌, ◌∙◌}
+use mathlib.Core.List.{[], ◌∷◌, ◌++◌}
 use native.Mathlib.Omega.{arith}
 use borrow.Author.Rules.{rules}
-use lib.ListN.{length, replicate, length-set}
-use Rattle.placing.specs.declared.Segment.{Segment}
-use Rattle.opening_steps.proofs.Steps.{second-turn, second-done}
+use lib.ListN.{length, drop, length-drop}
+use lib.Seq.{take_all}
 use Rattle.opening_steps.proofs.from_second.Goals as goal
-
-pub loop-i-init : goal.loop-i-init
-loop-i-init c = (omega arith, refl, ap (λ (g : Segment). replicate 32 g) c.of-rest.ensures)
-
-pub loop-i-preserved : goal.loop-i-preserved
-loop-i-preserved c =
-    let list = c.args.list in
-    let long : length list ≡ 32 = search rules in
-    (omega arith, simp length-set c.loop-i.invariant.1, second-turn list c.loop-i.rest c.loop-i.i long c.loop-i.invariant.2 (omega arith) _ refl)
 
 pub returns : goal.returns
 returns c =
     let list = c.args.list in
     let long : length list ≡ 32 = search rules in
-    second-done list c.loop-i.rest c.loop-i.i long c.loop-i.invariant.2 (omega arith)
+    let rest = c.copy_from_slice.ensures.after ∙ take_all 31 (drop 1 list) (omega (arith, length-drop 1 list)) in
+    (λ i. rest i ++ (c.of-rest.ensures i ∷ []))

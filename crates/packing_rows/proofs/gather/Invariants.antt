@@ -6,8 +6,13 @@ use Rattle.packing.specs.Packing.{sum}
 use Rattle.packing_rows.specs.Waiting.{Begun, Packs}
 use Rattle.packing_rows.proofs.gather.Given as goal
 
-abbrev pub invariant-loop-bits : goal.invariant-loop-bits
-invariant-loop-bits l = Begun l.widths l.number l.bits l.next × (sum (take l.next l.widths) + l.initial.bits ≡ sum (take l.initial.next l.widths) + l.bits) × ((row : ℕ) → Packs l.widths l.values row l.initial.number l.initial.bits l.initial.next → Packs l.widths l.values row l.number l.bits l.next)
+abbrev pub invariant-loop-waiting : goal.invariant-loop-waiting
+invariant-loop-waiting l =
+    let w = l.waiting in
+    let from = l.initial.waiting in
+    Begun l.widths w.number w.bits w.next
+    × (sum (take w.next l.widths) + from.bits ≡ sum (take from.next l.widths) + w.bits)
+    × ((row : ℕ) → Packs l.widths l.values row from.number from.bits from.next → Packs l.widths l.values row w.number w.bits w.next)
 
-abbrev pub decreases-loop-bits : goal.decreases-loop-bits
-decreases-loop-bits l = length l.widths - l.next
+abbrev pub decreases-loop-waiting : goal.decreases-loop-waiting
+decreases-loop-waiting l = length l.widths - l.waiting.next

@@ -6,8 +6,13 @@ use Rattle.packing.specs.Packing.{sum}
 use Rattle.packing_rows.specs.Waiting.{Begun, Unpacks}
 use Rattle.packing_rows.proofs.hand_out.Given as goal
 
-abbrev pub invariant-loop-next : goal.invariant-loop-next
-invariant-loop-next l = (length l.values ≡ length l.initial.values) × Begun l.widths l.number l.bits l.next × (sum (take l.next l.widths) + l.bits ≡ sum (take l.initial.next l.widths) + l.initial.bits) × ((row : ℕ) → Unpacks l.widths l.initial.values row l.initial.number l.initial.bits l.initial.next → Unpacks l.widths l.values row l.number l.bits l.next)
+abbrev pub invariant-loop-waiting : goal.invariant-loop-waiting
+invariant-loop-waiting l =
+    let w = l.waiting in
+    let from = l.initial.waiting in
+    Begun l.widths w.number w.bits w.next
+    × (sum (take w.next l.widths) + w.bits ≡ sum (take from.next l.widths) + from.bits)
+    × ((row : ℕ) → Unpacks l.widths l.initial.values row from.number from.bits from.next → Unpacks l.widths l.values row w.number w.bits w.next)
 
-abbrev pub decreases-loop-next : goal.decreases-loop-next
-decreases-loop-next l = length l.widths - l.next
+abbrev pub decreases-loop-waiting : goal.decreases-loop-waiting
+decreases-loop-waiting l = length l.widths - l.waiting.next

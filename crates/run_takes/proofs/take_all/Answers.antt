@@ -11,7 +11,7 @@ take_cells-requires c = search (whole-fits, rules)
 pub returns-then-species-eq-WHOLE_SPECIES : goal.returns-then-species-eq-WHOLE_SPECIES
 returns-then-species-eq-WHOLE_SPECIES c =
     let a = c.args in
-    all-copied a.segment a.first (search rules) _ (λ i. (c.shared_slice_known-1.given i).fits) a.count a.species (search rules) (search rules) (search rules) _ _ a.from (search rules)
+    all-copied a.segment a.first (search rules) _ (λ i. (c.type_inv.store i).fits) a.count a.species (search rules) (search rules) (search rules) _ _ a.from (search rules)
 
 pub take_row-requires : goal.take_row-requires
 take_row-requires c = search (alls, rules)

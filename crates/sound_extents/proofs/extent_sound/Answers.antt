@@ -1,11 +1,9 @@
 -- `sound_extents::extent_sound` meets its contract. Assumes nothing.
 use Prim.Native.Nat.{ℕ}
 use mathlib.Core.Path.{ap}
-use native.Mathlib.Omega.{arith}
 use borrow.Author.Tests.{le-leb, lt-leb}
 use lib.Dec.{leb}
 use Rattle.combine.specs.Laws.Rows.{one-bad, all-last}
-use Rattle.placing.specs.declared.Position.{Position}
 use Rattle.tables.specs.Records.{extentb}
 use Rattle.sound_extents.specs.Extent.{held_at}
 use Rattle.sound_extents.proofs.extent_sound.Goals as goal
@@ -21,16 +19,6 @@ returns-then-begin-lt1 c = one-bad _ 1 (lt-leb _ _ c.if-begin-lt1.true)
 pub returns-then-end-begin : goal.returns-then-end-begin
 unfolding extentb
 returns-then-end-begin c = one-bad _ 2 (lt-leb _ _ c.if-end-begin.true)
-
-pub returns-then-end-gt-GREATEST_END : goal.returns-then-end-gt-GREATEST_END
-unfolding extentb
-returns-then-end-gt-GREATEST_END c = one-bad _ 3 (lt-leb _ _ c.if-end-gt-GREATEST_END.true)
-
-pub held-requires : goal.held-requires
-held-requires c =
-    let b = ap (λ (x : Position). x.0) c.of.ensures in
-    let e = ap (λ (x : Position). x.0) c.of-2.ensures in
-    omega arith
 
 pub returns : goal.returns
 unfolding extentb

@@ -7,7 +7,7 @@ use Rattle.tables.specs.Openings.{workb}
 use Rattle.sound_links.proofs.work_sound.Goals as goal
 
 pub overflow_cast-filed : goal.overflow_cast-filed
-overflow_cast-filed c = omega (arith, c.shared_slice_known-4-1.given 13)
+overflow_cast-filed c = omega (arith, c.type_inv.filed 13)
 
 pub returns-then-filed-entry : goal.returns-then-filed-entry
 unfolding workb record_of

@@ -1,9 +1,7 @@
 -- `sound_names::names_sound` meets its contract: the keys before place `p` are there, and no record before it clashes. Assumes nothing.
-use Prim.Native.Nat.{◌-◌}
-use mathlib.Core.Path.{ap, ◌∙◌}
-use mathlib.Core.Bool.{true}
+use mathlib.Core.Path.{sym, ap, ◌∙◌}
 use native.Mathlib.Omega.{arith}
-use Rattle.combine.specs.Laws.Below.{all-zero, all_more, loop-true, loop-false, was-true, was-false}
+use Rattle.combine.specs.Laws.Below.{all-zero, all_more, loop-false}
 use Rattle.tables.specs.declared.Record.{Record}
 use Rattle.sound_keys.specs.Keys.{key_of}
 use Rattle.sound_clashes.proofs.Rows.{row_at}
@@ -31,14 +29,11 @@ alone-requires c =
     (keys-put t _ _ _ _ l.p l.invariant.0 (omega arith) _ _ (c.key-first.ensures ∙ ap (λ (r : Record). key_of r 0) row) (c.key-second.ensures ∙ ap (λ (r : Record). key_of r 6) row) _ _ _ _ (owner-cell _ ∙ ap (λ (r : Record). r.owner) row) (private-flag _ ∙ ap (λ (r : Record). r.private) row) c.short.ensures c.public_short.ensures, is-used t l.p (l.invariant.0.halves.spelled l.p (omega arith)) c.if-tables-from-eq0.false)
 
 pub returns-then-not-alone : goal.returns-then-not-alone
-returns-then-not-alone c = loop-false _ _ _ (omega arith) (was-false c.if-not-alone.true-raw c.alone.ensures)
+returns-then-not-alone c = loop-false _ _ _ (omega arith) (sym c.alone.ensures ∙ c.if-not-alone.true)
 
 pub loop-p-preserved : goal.loop-p-preserved
 loop-p-preserved c =
     let l = c.loop-p in
     let t = c.args.tables.now in
     let row = row_at t l.p in
-    (keys-put t _ _ _ _ l.p l.invariant.0 (omega arith) _ _ (c.key-first.ensures ∙ ap (λ (r : Record). key_of r 0) row) (c.key-second.ensures ∙ ap (λ (r : Record). key_of r 6) row) _ _ _ _ (owner-cell _ ∙ ap (λ (r : Record). r.owner) row) (private-flag _ ∙ ap (λ (r : Record). r.private) row) c.short.ensures c.public_short.ensures, rest_put _ _ _ _ _ l.invariant.1, all_more _ _ l.invariant.2 (was-true c.if-not-alone.false-raw c.alone.ensures))
-
-pub returns : goal.returns
-returns c = loop-true _ _ _ (omega arith) (omega arith) c.loop-p.invariant.2
+    (keys-put t _ _ _ _ l.p l.invariant.0 (omega arith) _ _ (c.key-first.ensures ∙ ap (λ (r : Record). key_of r 0) row) (c.key-second.ensures ∙ ap (λ (r : Record). key_of r 6) row) _ _ _ _ (owner-cell _ ∙ ap (λ (r : Record). r.owner) row) (private-flag _ ∙ ap (λ (r : Record). r.private) row) c.short.ensures c.public_short.ensures, rest_put _ _ _ _ _ l.invariant.1, all_more _ _ l.invariant.2 (sym c.alone.ensures ∙ c.if-not-alone.false))

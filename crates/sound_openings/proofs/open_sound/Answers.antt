@@ -1,11 +1,11 @@
 -- `sound_openings::open_sound` meets its contract: its tests are those of `openedb`. Assumes nothing.
-use mathlib.Core.Path.{◌∙◌}
+use mathlib.Core.Path.{sym, ◌∙◌}
 use borrow.Author.Tests.{eq-eqb, ne_eqb, le-leb, lt-leb}
-use Rattle.combine.specs.Laws.Below.{was-true, was-false}
 use Rattle.combine.specs.Lists.{part}
 use Rattle.combine.specs.Laws.Rows.{one-bad, all-last}
 use Rattle.tables.specs.Layout.{opening_of}
 use Rattle.sound_openings.specs.Opened.{openedb, opened-open}
+use Rattle.sound_openings.proofs.Contents.{content}
 use Rattle.sound_openings.proofs.open_sound.Goals as goal
 
 pub returns-then-row-ne1 : goal.returns-then-row-ne1
@@ -18,15 +18,15 @@ returns-then-row-gt1 c = one-bad _ 1 (lt-leb _ _ c.if-row-gt1.true) ∙ opened-o
 
 pub returns-then-not-pointers_sound : goal.returns-then-not-pointers_sound
 unfolding openedb
-returns-then-not-pointers_sound c = one-bad _ 2 (was-false c.if-not-pointers_sound.true-raw c.pointers_sound.ensures) ∙ opened-open _ _ _
+returns-then-not-pointers_sound c = one-bad _ 2 (sym c.pointers_sound.ensures ∙ c.if-not-pointers_sound.true) ∙ opened-open _ _ _
 
 pub returns-then-not-title_sound : goal.returns-then-not-title_sound
 unfolding openedb opening_of part
-returns-then-not-title_sound c = one-bad _ 3 (was-false c.if-not-title_sound.true-raw c.title_sound.ensures) ∙ opened-open _ _ (opening_of c.args.row.now)
+returns-then-not-title_sound c = one-bad _ 3 (sym c.title_sound.ensures ∙ c.if-not-title_sound.true) ∙ opened-open _ _ (opening_of c.args.row.now)
 
 pub returns-then-not-content_sound : goal.returns-then-not-content_sound
-unfolding openedb
-returns-then-not-content_sound c = one-bad _ 4 (was-false c.if-not-content_sound.true-raw c.content_sound.ensures) ∙ opened-open _ _ _
+unfolding openedb part
+returns-then-not-content_sound c = one-bad _ 4 (sym (content _ c.args.row.now c.content_sound.ensures) ∙ c.if-not-content_sound.true) ∙ opened-open _ _ _
 
 pub returns : goal.returns
 unfolding openedb opening_of part
@@ -36,10 +36,10 @@ returns c =
       (
         le-leb _ _ c.if-row-gt1.false,
         (
-          was-true c.if-not-pointers_sound.false-raw c.pointers_sound.ensures,
+          sym c.pointers_sound.ensures ∙ c.if-not-pointers_sound.false,
           (
-            was-true c.if-not-title_sound.false-raw c.title_sound.ensures,
-            (was-true c.if-not-content_sound.false-raw c.content_sound.ensures, c.link_sound.ensures),
+            sym c.title_sound.ensures ∙ c.if-not-title_sound.false,
+            (sym (content _ c.args.row.now c.content_sound.ensures) ∙ c.if-not-content_sound.false, c.link_sound.ensures),
           ),
         ),
       ),

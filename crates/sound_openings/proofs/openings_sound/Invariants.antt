@@ -1,14 +1,9 @@
 -- `sound_openings::openings_sound` meets its contract: all entries before `entry` passed the test. Assumes nothing.
-use Prim.Native.Nat.{◌-◌, ◌≤◌}
 use mathlib.Core.Path.{◌≡◌}
 use mathlib.Core.Bool.{true}
 use Rattle.combine.specs.Below.{all_below}
-use Rattle.placing.specs.Sizes.{entries}
 use Rattle.tables.specs.Openings.{openingb}
 use Rattle.sound_openings.proofs.openings_sound.Given as goal
 
 abbrev pub invariant-loop-entry : goal.invariant-loop-entry
-invariant-loop-entry l = (l.entry ≤ entries) × (all_below l.entry (openingb l.tables) ≡ true)
-
-abbrev pub decreases-loop-entry : goal.decreases-loop-entry
-decreases-loop-entry l = entries - l.entry
+invariant-loop-entry l = all_below l.entry (openingb l.tables) ≡ true

@@ -12,4 +12,4 @@ pub returns : goal.returns
 unfolding pointersb all_of
 returns c =
     let row = c.args.row.now in
-    sym (rw (values-small row (λ i. (c.shared_slice_known-1.given i).fits), and-true) (ap (leb 1) (value_cell row 2 (omega arith))))
+    sym (rw (values-small row (λ i. (c.type_inv.row i).fits), and-true) (ap (leb 1) (value_cell row 2 (omega arith))))

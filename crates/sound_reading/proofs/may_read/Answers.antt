@@ -10,7 +10,7 @@ unfolding record_of
 returns-then-filed-eq0 c = or-first _ _ (eq-eqb _ _ c.if-filed-eq0.true)
 
 pub overflow_cast-result : goal.overflow_cast-result
-overflow_cast-result c = omega (arith, c.shared_slice_known-2-1.given 13)
+overflow_cast-result c = omega (arith, c.type_inv.filed 13)
 
 pub returns : goal.returns
 unfolding record_of

@@ -1,13 +1,13 @@
 -- `sound_reading::read_sound` meets its contract. Assumes nothing.
-use mathlib.Core.Path.{◌∙◌}
+use mathlib.Core.Path.{sym, ◌∙◌}
 use native.Mathlib.Omega.{arith}
 use borrow.Author.Tests.{eq-eqb, ne_eqb}
-use Rattle.combine.specs.Laws.Below.{was-true, was-false}
 use Rattle.combine.specs.Lists.{part}
 use Rattle.combine.specs.Laws.Rows.{one-bad, all-last}
 use Rattle.tables.specs.Layout.{record_of, opening_of}
 use Rattle.tables.specs.Openings.{readb}
 use Rattle.sound_reading.specs.Cells.{value-test, same_numbers}
+use Rattle.sound_reading.proofs.Choices.{swapped}
 use Rattle.sound_reading.proofs.read_sound.Goals as goal
 
 pub returns-then-row-filed : goal.returns-then-row-filed
@@ -24,27 +24,27 @@ returns-then-row-filed-3 c = one-bad _ 4 (value-test c.args.row.now 1 _ _ (omega
 
 pub returns-then-not-may_read : goal.returns-then-not-may_read
 unfolding readb
-returns-then-not-may_read c = one-bad _ 0 (was-false c.if-not-may_read.true-raw c.may_read.ensures)
+returns-then-not-may_read c = one-bad _ 0 (sym c.may_read.ensures ∙ c.if-not-may_read.true)
 
-pub returns-then-not-same_cells : goal.returns-then-not-same_cells
+pub returns-then-ne : goal.returns-then-ne
 unfolding readb opening_of record_of part
-returns-then-not-same_cells c = one-bad _ 1 (was-false c.if-not-same_cells.true-raw c.same_cells.ensures)
+returns-then-ne c = one-bad _ 1 (swapped _ c.ne.ensures c.if-ne.true)
 
 pub returns : goal.returns
 unfolding readb opening_of record_of part
 returns c =
     let row = c.args.row.now in
     all-last _ _ (
-      was-true c.if-not-may_read.false-raw c.may_read.ensures,
+      sym c.may_read.ensures ∙ c.if-not-may_read.false,
       (
-        was-true c.if-not-same_cells.false-raw c.same_cells.ensures,
+        swapped _ c.ne.ensures c.if-ne.false,
         (
           eq-eqb _ _ c.if-row-filed.false,
           (
             value-test row 0 _ _ (omega arith) (eq-eqb _ _ c.if-row-filed-2.false),
             (
               value-test row 1 _ _ (omega arith) (eq-eqb _ _ c.if-row-filed-3.false),
-              c.same_cells-2.ensures ∙ same_numbers row c.args.filed.now 24 18 (omega arith) (omega arith),
+              c.eq.ensures ∙ same_numbers row c.args.filed.now 24 18 (omega arith) (omega arith),
             ),
           ),
         ),

@@ -1,5 +1,4 @@
 -- `sound_records::each_sound` meets its contract: the records before place `p` are sound. Assumes nothing.
-use Prim.Native.Nat.{◌≤◌, ◌-◌}
 use mathlib.Core.Path.{◌≡◌}
 use mathlib.Core.Bool.{true}
 use Rattle.combine.specs.Below.{all_below}
@@ -8,7 +7,4 @@ use Rattle.tables.specs.Records.{recordb}
 use Rattle.sound_records.proofs.each_sound.Given as goal
 
 abbrev pub invariant-loop-p : goal.invariant-loop-p
-invariant-loop-p l = (l.p ≤ 64) × (all_below l.p (λ k. recordb l.segments (record_at l.tables k)) ≡ true)
-
-abbrev pub decreases-loop-p : goal.decreases-loop-p
-decreases-loop-p l = 64 - l.p
+invariant-loop-p l = all_below l.p (λ k. recordb l.segments (record_at l.tables k)) ≡ true

@@ -17,4 +17,4 @@ returns c =
     let front = o.opened ∷ o.place ∷ o.permit ∷ o.species ∷ [] in
     four-parts c.args.row.now front (map position_number o.pointers) o.name (map segment_number o.segments) 4 8 12 32 refl
     (length-map o.pointers position_number ∙ eight) twelve c.requires
-    c.put_front.ensures c.put_pointers.ensures c.put_name.ensures c.put_segments.ensures
+    c.copy_from_slice.ensures.after c.put_pointers.ensures c.put_name.ensures c.put_segments.ensures

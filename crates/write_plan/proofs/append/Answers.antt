@@ -8,9 +8,6 @@ returns-then-wide c = search appends
 pub returns-then-last : goal.returns-then-last
 returns-then-last c = search appends
 
-pub after-requires : goal.after-requires
-after-requires c = search appends
-
 pub holds-requires : goal.holds-requires
 holds-requires c = search appends
 

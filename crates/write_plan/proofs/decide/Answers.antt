@@ -1,4 +1,4 @@
-use Rattle.write_plan.proofs.Decides.{decides, write_low}
+use Rattle.write_plan.proofs.Decides.{decides}
 use Rattle.write_plan.proofs.decide.Goals as goal
 
 pub returns-then-foreign : goal.returns-then-foreign
@@ -15,10 +15,6 @@ returns-then-is_before c = search decides
 
 pub returns-then-pointer-eq1 : goal.returns-then-pointer-eq1
 returns-then-pointer-eq1 c = search decides
-
-pub inside-requires : goal.inside-requires
-inside-requires c =
-    (c.requires, write_low _ _ _ _ c.value-value.ensures c.value-begin.ensures _ c.is_before.ensures c.if-is_before.false)
 
 pub returns : goal.returns
 returns c = search decides

@@ -1,14 +1,16 @@
 -- `door::packed::pack` meets its contract. Assumes nothing.
-use Prim.Native.Nat.{ℕ, ◌+◌}
-use mathlib.Core.Path.{ap, sym, ◌∙◌}
-use native.Mathlib.Omega.{arith}
-use Rattle.answers.specs.Said.{said}
+use Rattle.std.proofs.Common.{◌≡◌, ℕ, ◌+◌, ap, sym, ◌∙◌, arith, rules}
+use Rattle.answers.specs.Said.{refusal_number, said}
 use Rattle.door.specs.Handed.{first_refused, unpacked}
 use Rattle.door.specs.Laws.Handed.{unpacked-done, unpacked-refused}
 use Rattle.door.proofs.packed.pack.Goals as goal
 
-pub returns-in-Done : goal.returns-in-Done
-returns-in-Done c = unpacked-done _ (omega arith) ∙ ap said (sym c.in-Done.is)
+pub returns-in-Ok : goal.returns-in-Ok
+returns-in-Ok c =
+    let same : c.from.result ≡ c.in-Ok.number = search rules in
+    ap unpacked same ∙ unpacked-done _ (omega arith) ∙ ap said (sym c.in-Ok.is)
 
-pub returns-in-Refused : goal.returns-in-Refused
-returns-in-Refused c = ap (λ (n : ℕ). unpacked (first_refused + n)) c.number.ensures ∙ unpacked-refused _ ∙ ap said (sym c.in-Refused.is)
+pub returns-in-Err : goal.returns-in-Err
+returns-in-Err c =
+    let same : c.from-in-Err.result ≡ refusal_number c.in-Err.why = search rules in
+    ap (λ (n : ℕ). unpacked (first_refused + n)) same ∙ unpacked-refused _ ∙ ap said (sym c.in-Err.is)

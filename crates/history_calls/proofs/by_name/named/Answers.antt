@@ -1,11 +1,11 @@
 use Rattle.history_calls.specs.Telling.{spoken}
 use Rattle.history_calls.proofs.by_name.named.Goals as goal
 
+pub returns-in_default : goal.returns-in_default
+returns-in_default c = search (spoken, c.in_default.ensures)
+
 pub returns-then-line-to : goal.returns-then-line-to
-returns-then-line-to c = search spoken
+returns-then-line-to c = search (spoken, c.in-Some.ensures)
 
-pub returns-else-line-to : goal.returns-else-line-to
-returns-else-line-to c = search spoken
-
-pub returns-in-Bad : goal.returns-in-Bad
-returns-in-Bad c = search spoken
+pub returns : goal.returns
+returns c = search (spoken, c.in-Some.ensures)

@@ -9,6 +9,3 @@ returns-in-Read c = search known
 
 pub returns-in-Rename : goal.returns-in-Rename
 returns-in-Rename c = search known
-
-pub returns-in-Unknown : goal.returns-in-Unknown
-returns-in-Unknown c = search known

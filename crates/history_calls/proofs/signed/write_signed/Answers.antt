@@ -1,14 +1,13 @@
-use borrow.Author.Rules.{rules}
-use Rattle.history_calls.specs.Telling.{known, parted, signed-write}
+use Rattle.std.proofs.Common.{rules, SFits}
 use mir.Syntax.{w32}
-use mir.Val.{SFits}
+use Rattle.history_calls.specs.Telling.{known, parted, signed-there}
 use Rattle.history_calls.proofs.signed.write_signed.Goals as goal
 
-pub returns-in-Is : goal.returns-in-Is
-returns-in-Is c =
-    let z = c.in-Is.number in
-    let f : SFits w32 z = search rules in
-    signed-write _ _ _ _ _ _ _ z f c.in-Is.is (search known)
+pub returns-in_default : goal.returns-in_default
+returns-in_default c = search (parted, c.in_default.ensures)
 
-pub returns-in-Bad : goal.returns-in-Bad
-returns-in-Bad c = search parted
+pub returns : goal.returns
+returns c =
+    let w = c.in-Some.asked in
+    let fits : SFits w32 w.number = search rules in
+    signed-there _ _ _ _ _ w fits c.in-Some.ensures (search known)

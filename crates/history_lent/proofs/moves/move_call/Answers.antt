@@ -17,4 +17,4 @@ returns-then-others-ne-OTHERS_BUFFER c = search move-calls
 pub returns : goal.returns
 returns c =
     let a = c.args in
-    moved-into a.lengths a.climbs a.i a.j a.segments a.others.now (omega arith) (omega arith) c.if-from-into.false c.if-others-ne-OTHERS_BUFFER.false _ _ c.lent-n.ensures.0 c.lent-n.ensures.1 c.lent-m.ensures.0 _ c.copy_cells.ensures c.moved.result _ _ c.replied.ensures c.moved.ensures
+    moved-into a.lengths a.climbs a.i a.j a.segments a.others.now (omega arith) (omega arith) c.if-from-into.false c.if-others-ne-OTHERS_BUFFER.false _ _ c.lent-n.ensures.0 c.lent-n.ensures.1 c.lent-m.ensures.0 _ c.copy_from_slice.ensures.after c.moved.result _ _ c.replied.ensures c.moved.ensures

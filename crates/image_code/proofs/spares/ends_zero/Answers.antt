@@ -1,7 +1,5 @@
 -- `image_code::spares::ends_zero` meets its contract: all records before `p` passed the test. Assumes nothing.
-use Prim.Native.Nat.{◌-◌}
 use mathlib.Core.Path.{◌∙◌}
-use mathlib.Core.Bool.{true}
 use native.Mathlib.Omega.{arith}
 use borrow.Author.Tests.{eq-eqb, ne_eqb}
 use Rattle.combine.specs.Laws.Below.{all-zero, all_more, loop-true, loop-false}
@@ -11,7 +9,7 @@ use Rattle.image_code.specs.Spare.{spare-in}
 use Rattle.image_code.proofs.spares.ends_zero.Goals as goal
 
 pub loop-p-init : goal.loop-p-init
-loop-p-init c = (omega arith, all-zero _)
+loop-p-init c = all-zero _
 
 pub returns-then-image-p-ne0 : goal.returns-then-image-p-ne0
 unfolding sparesb
@@ -22,8 +20,8 @@ returns-then-image-p-ne0 c =
 pub loop-p-preserved : goal.loop-p-preserved
 loop-p-preserved c =
     let l = c.loop-p in
-    (omega arith, all_more _ l.p l.invariant.1 (spare-in c.args.image.now l.p c.requires (omega arith) ∙ eq-eqb _ _ c.if-image-p-ne0.false))
+    all_more _ l.p l.invariant (spare-in c.args.image.now l.p c.requires (omega arith) ∙ eq-eqb _ _ c.if-image-p-ne0.false)
 
 pub returns : goal.returns
 unfolding sparesb
-returns c = loop-true _ places _ (omega arith) (omega arith) c.loop-p.invariant.1
+returns c = loop-true _ places _ (omega arith) (omega arith) c.loop-p.invariant

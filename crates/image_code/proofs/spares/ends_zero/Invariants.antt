@@ -1,14 +1,9 @@
 -- `image_code::spares::ends_zero` meets its contract: all records before `p` passed the test. Assumes nothing.
-use Prim.Native.Nat.{◌≤◌, ◌-◌}
 use mathlib.Core.Path.{◌≡◌}
 use mathlib.Core.Bool.{true}
 use Rattle.combine.specs.Below.{all_below}
-use Rattle.placing.specs.Sizes.{places}
 use Rattle.image.specs.Image.{form2, record_part, spareb}
 use Rattle.image_code.proofs.spares.ends_zero.Given as goal
 
 abbrev pub invariant-loop-p : goal.invariant-loop-p
-invariant-loop-p l = (l.p ≤ places) × (all_below l.p (λ q. spareb form2 (record_part form2 l.image q)) ≡ true)
-
-abbrev pub decreases-loop-p : goal.decreases-loop-p
-decreases-loop-p l = places - l.p
+invariant-loop-p l = all_below l.p (λ q. spareb form2 (record_part form2 l.image q)) ≡ true

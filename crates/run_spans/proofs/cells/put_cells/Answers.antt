@@ -12,8 +12,5 @@ overflow_add-at c = let w : c.index-at.result + c.args.count ≤ length c.args.s
 pub offset_bounds-store-at : goal.offset_bounds-store-at
 offset_bounds-store-at c = let w : c.index-at.result + c.args.count ≤ length c.args.store.now = search cells-within in omega arith
 
-pub slice_bounds-copy_cells-end-2 : goal.slice_bounds-copy_cells-end-2
-slice_bounds-copy_cells-end-2 c = search cells-within
-
 pub returns : goal.returns
 returns c = search (cells-put, rules)

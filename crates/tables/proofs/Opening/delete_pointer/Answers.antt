@@ -11,8 +11,8 @@ returns-then-is_none c = search pointing
 pub returns-then-pointer-lt-FIRST_OWN_POINTER : goal.returns-then-pointer-lt-FIRST_OWN_POINTER
 returns-then-pointer-lt-FIRST_OWN_POINTER c = search pointing
 
-pub step-opening-requires : goal.step-opening-requires
-step-opening-requires c =
+pub step-requires : goal.step-requires
+step-requires c =
     let o = c.args.self in
     let eight : length o.pointers ≡ 8 = search (c.well_formed.0.1, unmapped) in
     delete-known o _ _ c.value-value.ensures _ c.is_none.ensures eight c.if-is_none.false

@@ -1,5 +1,4 @@
 -- `tables::Opening::free_pointer` meets its contract: no name before `pointer` is free. Assumes nothing.
-use Prim.Native.Nat.{◌-◌}
 use mathlib.Core.Path.{◌≡◌, refl}
 use native.Mathlib.Omega.{arith}
 use borrow.Author.Rules.{rules}
@@ -17,7 +16,7 @@ pub returns-then-is_none : goal.returns-then-is_none
 returns-then-is_none c =
     let o = c.args.self in
     let eight : length o.pointers ≡ 8 = search (rules, unmapped) in
-    free-here o c.loop-pointer.pointer eight c.loop-pointer.invariant.2 (omega arith) _ c.value.ensures _ c.is_none.ensures c.if-is_none.true
+    (free-here o c.loop-pointer.pointer eight c.loop-pointer.invariant.2 (omega arith) _ c.value.ensures _ c.is_none.ensures c.if-is_none.true, omega arith)
 
 pub loop-pointer-preserved : goal.loop-pointer-preserved
 loop-pointer-preserved c =
@@ -29,4 +28,4 @@ pub returns : goal.returns
 returns c =
     let o = c.args.self in
     let eight : length o.pointers ≡ 8 = search (rules, unmapped) in
-    free-end o c.loop-pointer.pointer eight c.loop-pointer.invariant.2 (omega arith)
+    let e : c.loop-pointer.pointer ≡ lowest_free_pointer o = free-end o c.loop-pointer.pointer eight c.loop-pointer.invariant.2 (omega arith) in omega arith

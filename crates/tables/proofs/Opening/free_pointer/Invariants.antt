@@ -1,5 +1,5 @@
 -- `tables::Opening::free_pointer` meets its contract: no name before `pointer` is free. Assumes nothing.
-use Prim.Native.Nat.{◌-◌, ◌≤◌}
+use Prim.Native.Nat.{◌≤◌}
 use mathlib.Core.Path.{◌≡◌}
 use Rattle.tables.specs.Pointers.{lowest_free_pointer}
 use Rattle.tables.proofs.First.{free_from}
@@ -7,6 +7,3 @@ use Rattle.tables.proofs.Opening.free_pointer.Given as goal
 
 abbrev pub invariant-loop-pointer : goal.invariant-loop-pointer
 invariant-loop-pointer l = (3 ≤ l.pointer) × (l.pointer ≤ 8) × (lowest_free_pointer l.self ≡ free_from l.self l.pointer)
-
-abbrev pub decreases-loop-pointer : goal.decreases-loop-pointer
-decreases-loop-pointer l = 8 - l.pointer

@@ -1,6 +1,0 @@
--- `call_ask::species` meets its contract. Assumes nothing.
-use Rattle.call_ask.proofs.Laws.{inquiring}
-use Rattle.call_ask.proofs.species.Goals as goal
-
-pub returns : goal.returns
-returns c = search inquiring

@@ -1,5 +1,0 @@
-use Rattle.door.specs.Laws.Handed.{hands}
-use Rattle.door.proofs.catalogue.dorrivand_new.Goals as goal
-
-pub returns : goal.returns
-returns c = search hands

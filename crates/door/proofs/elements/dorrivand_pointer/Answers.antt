@@ -1,5 +1,0 @@
-use Rattle.door.specs.Laws.Handed.{hands}
-use Rattle.door.proofs.elements.dorrivand_pointer.Goals as goal
-
-pub returns : goal.returns
-returns c = search hands

@@ -1,5 +1,0 @@
-use Rattle.door.specs.Laws.Handed.{hands}
-use Rattle.door.proofs.inquiry.dorrivand_value.Goals as goal
-
-pub returns : goal.returns
-returns c = search hands

@@ -1,2 +1,0 @@
--- Words by their places. Assumes nothing.
-pub mod Parts

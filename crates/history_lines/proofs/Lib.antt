@@ -1,0 +1,2 @@
+-- What the code of `history_lines` is. Assumes nothing.
+pub mod Looking
