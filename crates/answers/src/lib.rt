@@ -39,7 +39,7 @@ pub type Answer = Result<u32, Refusal>;
 // The same, where the number is signed.
 pub type SignedAnswer = Result<i32, Refusal>;
 
-// The number of the table.
+// The number of the table. A `From` beside it would be no plainer: pages and callers name this one.
 pub fn number(refusal: Refusal) -> u32
     ensures { result ≡ refusal_number refusal }
 {

@@ -16,7 +16,7 @@ use tables::layout;
 // The number of a name's last symbol.
 const LAST_SYMBOL: u32 = NAME_SYMBOLS as u32 - 1;
 
-// The symbol of no place of a name: "63 for k of 12 or more".
+// The symbol of no place of a name, a number that users know: "63 for k of 12 or more".
 const NO_PLACE: u32 = 63;
 
 // A cell of an opening, by its number in the row.

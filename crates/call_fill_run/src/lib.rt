@@ -12,7 +12,7 @@ ghost use Rattle.call_next_prev.specs.Reads.{NextPlan};
 ghost use Rattle.call_fill_run.specs.Turned.{Turned, Admitted, Handed};
 
 use answers::Refusal;
-use call_next_prev::{Reading, delivery, readings};
+use call_next_prev::{Direction, Reading};
 use tables::Opening;
 
 // One element, as the single call delivers it.
@@ -29,7 +29,7 @@ fn single(
     requires { Standing (length store.now) tables.old entry × (opening ≡ opening_at tables.old entry) × NextPlan opening false pointer (Ok reading) × (from < length list.old) }
     ensures { Turned entry pointer store.now tables.old list.old from result tables.new list.new }
 {
-    let told = delivery::deliver_next(store, tables, entry, opening, pointer, false, reading)?;
+    let told = Direction::Forward.deliver(store, tables, entry, opening, pointer, false, reading)?;
     list[from] = told;
     Ok(1)
 }
@@ -47,7 +47,7 @@ fn advance(
     ensures { Turned entry pointer store.now tables.old list.old from result tables.new list.new }
 {
     let opening = tables_openings::load_opening(tables, entry);
-    let reading = readings::forward(opening, pointer, false)?;
+    let reading = Direction::Forward.read(opening, pointer, false)?;
     let count = run_takes::how_far(opening, pointer, list.len() - from);
     if count == 0 {
         return single(store, tables, entry, opening, pointer, reading, list, from);
@@ -136,7 +136,8 @@ fn run(
 }
 
 // Fills a list with the elements from a pointer of an entry of a user on, till the first that is refused. It answers how
-// many places it filled, and leaves the others as they were; that refusal's number, or 0, is put in the place.
+// many places it filled, and leaves the others as they were; that refusal's number, or 0, is put in the place,
+// which C lends.
 pub fn fill_run(
     store: &[u32],
     tables: &mut [u32],

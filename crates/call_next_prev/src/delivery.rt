@@ -1,7 +1,6 @@
 // What is to be delivered is answered.
-ghost use Rattle.std.specs.Prelude.{◌≡◌, ◌+◌, ◌*◌, ◌≤◌, ◌<◌, length, Ok};
+ghost use Rattle.std.specs.Prelude.{◌≡◌, ◌*◌, ◌≤◌, ◌<◌, length, Ok};
 ghost use Rattle.placing.specs.Sizes.{segment_cells, tables_length, entries};
-ghost use Rattle.rules.specs.Access.{next_rule};
 ghost use Rattle.tables.specs.Layout.{segments_in};
 ghost use Rattle.tables.specs.Fields.{value_of};
 ghost use Rattle.tables.specs.Handles.{handle_in};
@@ -9,7 +8,7 @@ ghost use Rattle.cells.specs.Outcomes.{outcome};
 ghost use Rattle.opening_laws.specs.Back.{OpenFile};
 ghost use Rattle.gate_laws.specs.Known.{Known};
 ghost use Rattle.gate_laws.specs.Used.{used_out};
-ghost use Rattle.call_next_prev.specs.Reads.{rule_of, left_by, from_of, ReadPlan, NextPlan};
+ghost use Rattle.call_next_prev.specs.Reads.{rule_of, left_by, from_of, ReadPlan};
 
 use crate::{Direction, Reading};
 use answers::Answer;
@@ -54,20 +53,4 @@ impl Direction {
         tables_openings::put_opening(tables, entry, after);
         Ok(element)
     }
-}
-
-// What a next delivers.
-pub fn deliver_next(
-    store: &[u32],
-    tables: &mut [u32],
-    entry: usize,
-    opening: Opening,
-    pointer: u32,
-    signed: bool,
-    reading: Reading,
-) -> Answer
-    requires { (length tables.old ≡ tables_length) × (entry < entries) × (segments_in tables.old * segment_cells ≤ length store.now) × Known tables.old opening × NextPlan opening signed pointer (Ok reading) }
-    ensures { outcome result store.now tables.new ≡ used_out store.now tables.old entry opening (next_rule signed pointer (handle_in opening)) }
-{
-    Direction::Forward.deliver(store, tables, entry, opening, pointer, signed, reading)
 }

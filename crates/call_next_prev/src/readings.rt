@@ -2,7 +2,7 @@
 ghost use Rattle.std.specs.Prelude.{◌≡◌, ◌≤◌, ◌<◌};
 ghost use Rattle.tables.specs.Fields.{value_of};
 ghost use Rattle.opening_laws.specs.Back.{OpenFile};
-ghost use Rattle.call_next_prev.specs.Reads.{segment_for, lacks_permit, ReadPlan, NextPlan};
+ghost use Rattle.call_next_prev.specs.Reads.{segment_for, lacks_permit, ReadPlan};
 
 use crate::{Direction, Reading};
 use answers::Refusal;
@@ -60,12 +60,4 @@ impl Direction {
         let segment = segment_for(opening, position);
         Ok(Reading { segment, position })
     }
-}
-
-// What a next is to deliver.
-pub fn forward(opening: Opening, pointer: u32, signed: bool) -> Result<Reading, Refusal>
-    requires { OpenFile opening }
-    ensures { NextPlan opening signed pointer result }
-{
-    Direction::Forward.read(opening, pointer, signed)
 }

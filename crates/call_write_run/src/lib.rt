@@ -160,7 +160,8 @@ fn run(
 }
 
 // Writes the elements of a list through a pointer of an entry of a user, till the first that is refused: "the writer
-// hands back the unwritten rest of the caller's own list, and puts that refusal's number, or 0, in a lent place".
+// hands back the unwritten rest of the caller's own list, and puts that refusal's number, or 0, in a lent place", which
+// C lends.
 pub fn write_run<'l>(
     store: &mut [u32],
     tables: &mut [u32],

@@ -68,8 +68,8 @@ fn fits_at(
     fits(&tables[from..from + RECORD_LENGTH], wanted, name)
 }
 
-// The lowest place with such a record; 64, where there is none, and no Option: so the rules say it (`look_up`, `place_for`), and
-// the clauses here name them.
+// The lowest place with such a record; 64, where there is none, and no Option: so the rules say it (`look_up`,
+// `place_for`), and the clauses here name them.
 pub fn find(tables: &[u32], wanted: Wanted, name: &[u32; NAME_SYMBOLS], but: usize) -> usize
     requires { length tables.now ≡ tables_length }
     ensures { result ≡ first_below places (another (sought wanted name.now) tables.now but) }
@@ -82,7 +82,8 @@ pub fn find(tables: &[u32], wanted: Wanted, name: &[u32; NAME_SYMBOLS], but: usi
     PLACES
 }
 
-// "Look-up takes the user's own record of that name first, then a public one"; 64, where there is neither.
+// "Look-up takes the user's own record of that name first, then a public one"; 64, where there is neither, as the
+// rules' `look_up` says.
 pub fn look_up(tables: &[u32], user: u32, name: &[u32; NAME_SYMBOLS]) -> usize
     requires { length tables.now ≡ tables_length }
     ensures { result ≡ look_up user name.now (headings tables.now) }
@@ -94,7 +95,7 @@ pub fn look_up(tables: &[u32], user: u32, name: &[u32; NAME_SYMBOLS]) -> usize
     find(tables, Wanted::Public, name, 0)
 }
 
-// "the lowest free place"; 64, where none is free.
+// "the lowest free place"; 64, where none is free, as the rules' `place_for` says.
 pub fn unused(tables: &[u32]) -> usize
     requires { length tables.now ≡ tables_length }
     ensures { result ≡ first_below places (λ q. not (is_used (record_at tables.now q))) }

@@ -47,7 +47,8 @@ pub fn lists(row: &[u32], number: u32) -> bool
     times != 0
 }
 
-// Whether two rows of cells are the same.
+// Whether two rows of cells are the same. This and the two below are the library's, and crates call those; they stand
+// for the must-fail edits that turn them.
 pub fn same_cells(left: &[u32], right: &[u32]) -> bool
     requires { length left.now ≡ length right.now }
     ensures { result ≡ same left.now right.now }

@@ -1,9 +1,8 @@
 // Free segments: how many there are. A list of segment numbers is a row of cells of the tables.
 #![tactic(auto)]
 
-ghost use Rattle.std.specs.Prelude.{◌≡◌, not, ◌&&◌, cond, ℕ, ◌<◌, ◌≤◌, eqb, get_or, length};
+ghost use Rattle.std.specs.Prelude.{◌≡◌, ◌&&◌, cond, ℕ, ◌<◌, ◌≤◌, eqb, get_or, length};
 ghost use Rattle.combine.specs.Below.{count_below};
-ghost use Rattle.combine.specs.Lists.{is_in};
 ghost use Rattle.placing.specs.Sizes.{most_segments, lists};
 ghost use Rattle.placing.specs.Placing.{held_of};
 ghost use Rattle.segments.specs.Free.{is_free, free_count};

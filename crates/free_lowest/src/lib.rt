@@ -72,7 +72,9 @@ fn run_end(row: &[u32], number: u32) -> u32
     next
 }
 
-// "A taken segment is always the lowest-numbered free one": the number of segments, where none is free.
+// "A taken segment is always the lowest-numbered free one": the number of segments, where none is free, and no Option,
+// for so `lowest_free` of the rules says it. The search has the form that document 01 names: left by a label at the
+// first mention.
 // A file's segments usually stand together, and the next file's row usually follows: a scan starts at the row of the
 // last mention and goes round, and a mention passes the whole run that its row lists.
 pub fn lowest_free(tables: &[u32]) -> Segment

@@ -33,7 +33,7 @@ pub enum Reply {
     Done(u32),
     DoneSigned(i32),
     Refused(u32),
-    // what a run left unwritten, or filled, and the refusal's number or 0
+    // what a run left unwritten, or filled, and the refusal's number or 0, as histories print them
     Rest(u32, u32),
     Filled(u32, u32),
     Lent(u32),

@@ -33,10 +33,7 @@ pub fn new_opening(species: u32) -> Opening
 fn permit(work: bool) -> u32
     ensures { result ≡ bit work }
 {
-    if work {
-        return 1;
-    }
-    0
+    u32::from(work)
 }
 
 // "From now on a work opening of an old file puts pointer 2 at the end value; new and read openings stay as in 01."
@@ -109,10 +106,7 @@ pub fn unused_record() -> Record
 fn privacy(public: bool) -> u32
     ensures { result ≡ bit (not public) }
 {
-    if public {
-        return 0;
-    }
-    1
+    u32::from(!public)
 }
 
 // "name, privacy, species, begin, end and segments become the record"

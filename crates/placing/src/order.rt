@@ -1,4 +1,5 @@
-// Positions in their order: a pointer's value is tested, and moves by one.
+// Positions in their order: a pointer's value is tested, and moves by one. The tests have names beside the derived
+// order, for pages and must-fail edits name them.
 ghost use Rattle.std.specs.Prelude.{◌≡◌, ◌≤◌, ◌<◌, ◌+◌, ◌-◌, leb, ltb, eqb};
 ghost use Rattle.placing.specs.Sizes.{greatest_end};
 

@@ -45,10 +45,11 @@ pub struct Keys {
 fn wide(cell: u32) -> u64
     ensures { (result ≡ cell) × (result < 2 ^ 32) }
 {
-    cell as u64
+    u64::from(cell)
 }
 
-// Six symbols of a used record's name, from cell `at` of its row on, as one number after a 1; 0 for an unused record.
+// Six symbols of a used record's name, from cell `at` of its row on, as one number after a 1; 0 for an unused record, as
+// `key_of` says.
 pub fn key(row: &[u32], at: usize) -> u64
     requires { (length row.now ≡ record_length) × (1 ≤ at) × (at ≤ 7) }
     ensures { result ≡ key_of (record_of row.now) (at - 1) }
@@ -73,7 +74,7 @@ pub fn short(high: u64, low: u64, owner: u32) -> u32
 }
 
 // One for two keys alone, as public records of one name clash whoever owns them; 0 for a private record, which clashes with
-// its own owner's only.
+// its own owner's only, as `public_of` says.
 pub fn public_short(high: u64, low: u64, private: u32) -> u32
     ensures { result ≡ public_of high low private }
 {

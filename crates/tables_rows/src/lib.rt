@@ -8,6 +8,8 @@ ghost use Rattle.tables.specs.Layout.{segment_number, position_number};
 
 use placing::{ALL_POINTERS, LIST_LENGTH, NAME_SYMBOLS, Position, Segment};
 
+// A function for this and the next would take a closure, and a clause of what it answers: no plainer than a line
+// each.
 pub fn segments_from(row: &[u32]) -> [Segment; LIST_LENGTH]
     requires { length row.now ≡ most_held }
     ensures { result ≡ map segment row.now }

@@ -8,13 +8,13 @@ use Rattle.call_fill_run.proofs.advance.Goals as goal
 pub load_opening-opening-requires : goal.load_opening-opening-requires
 load_opening-opening-requires c = search (turns, rules)
 
-pub forward-requires : goal.forward-requires
-forward-requires c = search (turns, rules)
+pub read-requires : goal.read-requires
+read-requires c = search (turns, rules)
 
 pub returns-in_err-reading : goal.returns-in_err-reading
 returns-in_err-reading c =
     let z : c.from_residual.result ≡ Err c.in_err-reading.field-0.0 = search rules in
-    reading-stops _ _ _ _ c.requires.0 _ c.load_opening-opening.ensures _ _ _ c.forward.ensures _ c.in_err-reading.was _ z
+    reading-stops _ _ _ _ c.requires.0 _ c.load_opening-opening.ensures _ _ _ c.read.ensures _ c.in_err-reading.was _ z
 
 pub how_far-count-requires : goal.how_far-count-requires
 how_far-count-requires c = search (turns, rules, c.in_ok-reading.was)
