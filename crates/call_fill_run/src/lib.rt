@@ -29,7 +29,15 @@ fn single(
     requires { Standing (length store.now) tables.old entry × (opening ≡ opening_at tables.old entry) × NextPlan opening false pointer (Ok reading) × (from < length list.old) }
     ensures { Turned entry pointer store.now tables.old list.old from result tables.new list.new }
 {
-    let told = Direction::Forward.deliver(store, tables, entry, opening, pointer, false, reading)?;
+    let told = Direction::Forward.deliver(
+        store,
+        tables,
+        entry,
+        opening,
+        pointer,
+        false,
+        Ok(reading),
+    )?;
     list[from] = told;
     Ok(1)
 }

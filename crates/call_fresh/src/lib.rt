@@ -28,7 +28,7 @@ pub fn fresh(store: &[u32], tables: &mut [u32]) -> Answer
     if store.len() < LEAST_STORE {
         return Err(Refusal::Tables);
     }
-    tables.fill(0);
+    combine::fill_cells(tables, 0);
     tables[0] = segments_in(store.len());
     Ok(0)
 }

@@ -17,7 +17,7 @@ fn judged(store: &[u32], tables: &mut [u32], image: &[u32], beside: &mut [u32]) 
     if !image_sound::is_sound(Form::Two, image, store.len(), beside) {
         return Err(Refusal::Image);
     }
-    tables.copy_from_slice(beside);
+    combine::copy_cells(beside, tables);
     Ok(0)
 }
 

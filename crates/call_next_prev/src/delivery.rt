@@ -1,5 +1,5 @@
 // What is to be delivered is answered.
-ghost use Rattle.std.specs.Prelude.{◌≡◌, ◌*◌, ◌≤◌, ◌<◌, length, Ok};
+ghost use Rattle.std.specs.Prelude.{◌≡◌, ◌*◌, ◌≤◌, ◌<◌, length};
 ghost use Rattle.placing.specs.Sizes.{segment_cells, tables_length, entries};
 ghost use Rattle.tables.specs.Layout.{segments_in};
 ghost use Rattle.tables.specs.Fields.{value_of};
@@ -11,7 +11,7 @@ ghost use Rattle.gate_laws.specs.Used.{used_out};
 ghost use Rattle.call_next_prev.specs.Reads.{rule_of, left_by, from_of, ReadPlan};
 
 use crate::{Direction, Reading};
-use answers::Answer;
+use answers::{Answer, Refusal};
 use placing::Position;
 use tables::Opening;
 
@@ -29,7 +29,7 @@ impl Direction {
         opening.step(pointer, value)
     }
 
-    // The element is the answer, and the opening is put back as it is then.
+    // The element is the answer, and the opening is put back as it is then; what is refused changes nothing.
     pub fn deliver(
         self,
         store: &[u32],
@@ -38,11 +38,12 @@ impl Direction {
         opening: Opening,
         pointer: u32,
         signed: bool,
-        reading: Reading,
+        reading: Result<Reading, Refusal>,
     ) -> Answer
-        requires { (length tables.old ≡ tables_length) × (entry < entries) × (segments_in tables.old * segment_cells ≤ length store.now) × Known tables.old opening × ReadPlan self opening signed pointer (Ok reading) }
+        requires { (length tables.old ≡ tables_length) × (entry < entries) × (segments_in tables.old * segment_cells ≤ length store.now) × Known tables.old opening × ReadPlan self opening signed pointer reading }
         ensures { outcome result store.now tables.new ≡ used_out store.now tables.old entry opening (rule_of self signed pointer (handle_in opening)) }
     {
+        let reading = reading?;
         let after = self.after(opening, pointer, reading.position);
         let element = store::take_element(
             store,

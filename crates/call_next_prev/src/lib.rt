@@ -46,7 +46,7 @@ impl Direction {
         ensures { outcome result store.now tables.new ≡ used_out store.now tables.old at (opening_at tables.old at) (rule_of self signed pointer (handle_in (opening_at tables.old at))) }
     {
         let opening = tables_openings::load_opening(tables, at);
-        let reading = self.read(opening, pointer, signed)?;
+        let reading = self.read(opening, pointer, signed);
         self.deliver(store, tables, at, opening, pointer, signed, reading)
     }
 

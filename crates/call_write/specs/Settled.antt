@@ -1,5 +1,5 @@
 -- A plan carried out, and the act that writes a number. Assumes nothing.
-use Rattle.std.specs.Prelude.{ℕ, ◌+◌, ◌≤◌, ◌<◌, List, Ok}
+use Rattle.std.specs.Prelude.{ℕ, ◌+◌, ◌≤◌, ◌<◌, List}
 use Rattle.combine.specs.Verdict.{Verdict, done}
 use Rattle.combine.specs.Outcome.{Outcome, outcome_of}
 use Rattle.placing.specs.declared.Segment.{Segment}
@@ -15,8 +15,7 @@ use Rattle.tables.specs.Layout.{put_opening}
 use Rattle.tables.specs.Fields.{value_of}
 use Rattle.tables.specs.Handles.{pointed}
 use Rattle.cells.specs.Outcomes.{Lent, lent}
-use Rattle.write_plan.specs.declared.Plan.{Plan}
-use Rattle.write_plan.specs.Plans.{Planned}
+use Rattle.write_plan.specs.Plans.{Decision, Planned}
 
 -- the element goes to segment g, "v grows by 1"
 unfoldable pub settled : List ℕ → List ℕ → ℕ → Opening → ℕ → ℕ → Segment → Outcome Lent
@@ -30,9 +29,9 @@ pub record Moves (o : Opening) (p : ℕ) : Type 0 where
   pub some : 1 ≤ value_of o p
   pub small : value_of o p < greatest_end
 
--- the plan was decided, by some verdict on the bits of each number
-abbrev pub Chosen : List ℕ → Opening → ℕ → Plan → Type 0
-Chosen t o p plan = (verdict : ℕ → Verdict Use) × Planned t o p verdict (Ok plan)
+-- the decision is one by some verdict on the bits of each number
+abbrev pub Chosen : List ℕ → Opening → ℕ → Decision → Type 0
+Chosen t o p decision = (verdict : ℕ → Verdict Use) × Planned t o p verdict decision
 
 -- the act, by the kind of its number
 abbrev pub write_of : (pointer : ℕ) → Number → Act

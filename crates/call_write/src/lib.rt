@@ -1,7 +1,7 @@
 // The calls `write` and `write_signed`: a plan is decided, and carried out.
 #![tactic(auto)]
 
-ghost use Rattle.std.specs.Prelude.{ℕ, ◌≡◌, ◌+◌, ◌*◌, ◌≤◌, ◌<◌, length, Ok};
+ghost use Rattle.std.specs.Prelude.{ℕ, ◌≡◌, ◌+◌, ◌*◌, ◌≤◌, ◌<◌, length};
 ghost use Rattle.combine.specs.Verdict.{Verdict};
 ghost use Rattle.placing.specs.Sizes.{segment_cells, tables_length, entries};
 ghost use Rattle.numbers.specs.Numbers.{is_signed, too_wide, bits_of};
@@ -15,7 +15,7 @@ ghost use Rattle.gate_laws.specs.Used.{used_out};
 ghost use Rattle.write_plan.specs.Plans.{write_verdict, Planned};
 ghost use Rattle.call_write.specs.Settled.{settled, Moves, Chosen, write_of};
 
-use answers::Answer;
+use answers::{Answer, Refusal};
 use numbers::Number;
 use placing::Segment;
 use tables::Opening;
@@ -41,7 +41,8 @@ fn settle(
     Ok(0)
 }
 
-// A plan that was decided for the opening is carried out for a number's bits, whatever the verdict was that gave it.
+// What was decided for the opening is carried out for a number's bits, whatever the verdict was that gave it: a refusal
+// changes nothing.
 pub fn carry(
     store: &mut [u32],
     tables: &mut [u32],
@@ -49,11 +50,12 @@ pub fn carry(
     opening: Opening,
     pointer: u32,
     bits: u32,
-    plan: Plan,
+    decision: Result<Plan, Refusal>,
 ) -> Answer
-    requires { (length tables.old ≡ tables_length) × (entry < entries) × (segments_in tables.old * segment_cells ≤ length store.old) × Known tables.old opening × Chosen tables.old opening pointer plan }
-    ensures { (verdict : ℕ → Verdict Use) → Planned tables.old opening pointer verdict (Ok plan) → outcome result store.new tables.new ≡ used_out store.old tables.old entry opening (verdict bits) }
+    requires { (length tables.old ≡ tables_length) × (entry < entries) × (segments_in tables.old * segment_cells ≤ length store.old) × Known tables.old opening × Chosen tables.old opening pointer decision }
+    ensures { (verdict : ℕ → Verdict Use) → Planned tables.old opening pointer verdict decision → outcome result store.new tables.new ≡ used_out store.old tables.old entry opening (verdict bits) }
 {
+    let plan = decision?;
     match plan {
         // "Through 0: the first element is dropped, no segment is taken and no store cell changes."
         Plan::Drop => {
@@ -89,7 +91,7 @@ fn write_at(
     let opening = tables_openings::load_opening(tables, at);
     let signed = numbers::is_signed(number);
     let wide = numbers::is_too_wide(opening.species, number);
-    let plan = write_plan::decide(tables, opening, pointer, signed, wide)?;
+    let plan = write_plan::decide(tables, opening, pointer, signed, wide);
     carry(
         store,
         tables,

@@ -80,7 +80,7 @@ module _ (s t : List ℕ) (i : ℕ) (o : Opening) (p : ℕ) (l : List ℕ) (plan
   pub decided-known : Known t o
   decided-known = standing-known s t i d.standing o d.loaded
 
-  pub decided-chosen : Chosen t o p plan
+  pub decided-chosen : Chosen t o p (Ok plan)
   decided-chosen = (write_verdict t o p false (first_wide o l), d.planned)
 
   says : (q : Plan) → plan ≡ q → Says t o p (write_verdict t o p false (first_wide o l)) (Ok q)

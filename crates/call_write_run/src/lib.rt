@@ -29,7 +29,7 @@ fn single(
     requires { Decided store.old tables.old entry opening pointer list.now plan }
     ensures { Turned entry pointer list.now store.old tables.old result store.new tables.new }
 {
-    call_write::carry(store, tables, entry, opening, pointer, list[0], plan)?;
+    call_write::carry(store, tables, entry, opening, pointer, list[0], Ok(plan))?;
     Ok(1)
 }
 

@@ -47,7 +47,7 @@ fn fits(row: &[u32], wanted: Wanted, name: &[u32; NAME_SYMBOLS]) -> bool
     ) {
         return false;
     }
-    row[layout::RECORD_NAME..layout::RECORD_OWNER] == name[..]
+    combine::same_cells(&row[layout::RECORD_NAME..layout::RECORD_OWNER], name)
 }
 
 // The same of the record at a place, but for the one that the number of an opening names.

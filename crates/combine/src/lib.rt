@@ -47,8 +47,8 @@ pub fn lists(row: &[u32], number: u32) -> bool
     times != 0
 }
 
-// Whether two rows of cells are the same. This and the two below are the library's, and crates call those; they stand
-// for the must-fail edits that turn them.
+// Whether two rows of cells are the same. This and the two below are the library's: the search for a name, a load and a
+// fresh start go through them, and the must-fail edits turn them; elsewhere crates call the library's.
 pub fn same_cells(left: &[u32], right: &[u32]) -> bool
     requires { length left.now ≡ length right.now }
     ensures { result ≡ same left.now right.now }

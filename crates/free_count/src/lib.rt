@@ -1,8 +1,9 @@
 // Free segments: how many there are. A list of segment numbers is a row of cells of the tables.
 #![tactic(auto)]
 
-ghost use Rattle.std.specs.Prelude.{◌≡◌, ◌&&◌, cond, ℕ, ◌<◌, ◌≤◌, eqb, get_or, length};
+ghost use Rattle.std.specs.Prelude.{◌≡◌, not, ◌&&◌, cond, ℕ, ◌<◌, ◌≤◌, eqb, get_or, length};
 ghost use Rattle.combine.specs.Below.{count_below};
+ghost use Rattle.combine.specs.Lists.{is_in};
 ghost use Rattle.placing.specs.Sizes.{most_segments, lists};
 ghost use Rattle.placing.specs.Placing.{held_of};
 ghost use Rattle.segments.specs.Free.{is_free, free_count};
@@ -15,7 +16,6 @@ ghost use Rattle.free_count.specs.Rows.{start_of};
 use placing::{
     LISTS, OPENING_LENGTH, OPENINGS_START, PLACES, Position, RECORD_LENGTH, RECORDS_START,
 };
-use sound_lists::marks::mark_row;
 use tables::layout;
 
 // A mark for each segment.
@@ -71,8 +71,20 @@ pub fn held_in(tables: &[u32], i: usize) -> usize
     )
 }
 
+// Marks the numbers of a row.
+// Not that of `sound_lists`, which marks bytes: `mark_lists` and `unmarked` are lent u32, and callers may rely on it.
+fn mark_row(row: &[u32], marks: &mut [u32; MARKS])
+    requires { (length marks.old ≡ most_segments) × ((k : ℕ) → k < length row.now → get_or row.now k 0 < most_segments) }
+    ensures size { length marks.new ≡ most_segments }
+    ensures by_index { (g : ℕ) → eqb (get_or marks.new g 0) 0 ≡ (eqb (get_or marks.old g 0) 0 && not (is_in g row.now)) }
+{
+    for number in row {
+        marks[*number as usize] = 1;
+    }
+}
+
 // How many of the first numbers are not marked.
-pub fn unmarked(marks: &[u8; MARKS], segments: u32) -> u32
+pub fn unmarked(marks: &[u32; MARKS], segments: u32) -> u32
     requires { segments ≤ most_segments }
     ensures { result ≡ count_below segments (λ g. eqb (get_or marks.now g 0) 0) }
 {
@@ -84,7 +96,7 @@ pub fn unmarked(marks: &[u8; MARKS], segments: u32) -> u32
 }
 
 // Marks the numbers that the lists hold.
-pub fn mark_lists(tables: &[u32], marks: &mut [u8; MARKS])
+pub fn mark_lists(tables: &[u32], marks: &mut [u32; MARKS])
     requires { Ranged tables.now × (length marks.old ≡ most_segments) }
     ensures size { length marks.new ≡ most_segments }
     ensures by_index { (g : ℕ) → eqb (get_or marks.new g 0) 0 ≡ (eqb (get_or marks.old g 0) 0 && is_free (house_of tables.now) g) }
@@ -101,7 +113,7 @@ pub fn free_count(tables: &[u32]) -> u32
     requires { Ranged tables.now }
     ensures { result ≡ free_count (house_of tables.now) }
 {
-    let mut marks = [0u8; MARKS];
+    let mut marks = [0u32; MARKS];
     mark_lists(tables, &mut marks);
     unmarked(&marks, tables[0])
 }

@@ -1,5 +1,5 @@
 -- What the code uses of these meanings. Assumes nothing.
-use Rattle.std.specs.Prelude.{ℕ, ◌+◌, ◌-◌, ◌*◌, ◌%◌, ◌≤◌, ◌<◌, ◌≡◌, min, Bool, true, false, cond, ltb, List, [], ◌∷◌, length, get_or, set, take, Some, None}
+use Rattle.std.specs.Prelude.{ℕ, ◌+◌, ◌-◌, ◌*◌, ◌%◌, ◌≤◌, ◌<◌, ◌≡◌, min, Bool, true, false, cond, ltb, List, [], ◌∷◌, length, get_or, set, take, Option, Some, None}
 use Rattle.std.proofs.Math.Path.{refl, sym, ap}
 use Rattle.std.proofs.Common.{◌∙◌, arith, fold}
 use Rattle.std.proofs.Math.Nat.{sub-zero}
@@ -49,7 +49,7 @@ module _ (l : List ℕ) (k most : ℕ) where
   unfolding lended
   lend-there n h g = simp (le-ltb most n h, le-ltb last_buffer k g)
 
-  module _ (ns : Numbers) (a : Answered) where
+  module _ (ns : Option Numbers) (a : Answered) where
     pub lend-bad : None ≡ one_number ns → a ≡ answering Bad l → a ≡ lend_line l k most ns
     unfolding lend_line
     lend-bad e p = p ∙ ap (on_one (lended l k most) (answering Bad l)) e
@@ -67,7 +67,7 @@ unfolding sum_of
 summed_by [] h = refl
 summed_by (c ∷ cells) h = summed_by cells ((h * 31 + c) % 4294967291)
 
-module _ (cells l : List ℕ) (k : ℕ) (ns : Numbers) (b : Bool) (e : b ≡ no_number ns) where
+module _ (cells l : List ℕ) (k : ℕ) (ns : Option Numbers) (b : Bool) (e : b ≡ no_number ns) where
   pub sum-bad : b ≡ false → Bad ≡ sum_line cells l k ns
   unfolding sum_line
   sum-bad q = rw (sym e ∙ q) refl
@@ -94,7 +94,7 @@ pub poke-there : (cells : List ℕ) (i v : ℕ) → i < length cells → poking 
 unfolding poked
 poke-there cells i v l = simp (lt-leb (length cells) i l)
 
-module _ (cells : List ℕ) (ns : Numbers) where
+module _ (cells : List ℕ) (ns : Option Numbers) where
   pub peek-bad : None ≡ one_number ns → Bad ≡ peek_line cells ns
   unfolding peek_line
   peek-bad e = ap (on_one (peeked cells) Bad) e
@@ -115,9 +115,12 @@ pub ruleset lines = (sum-bad, sum-lent, peek-bad, peek-one, poke-bad, poke-two)
 
 -- ---- any of them
 
-module _ (l : List ℕ) (k : ℕ) (ns : Numbers) where
-  pub test_known : (cells : List ℕ) (w v : OfBuffer) (y : Tested) → w ≡ v → y ≡ test_of v cells l k ns → y ≡ test_of w cells l k ns
+module _ (l : List ℕ) (k : ℕ) (ns : Option Numbers) where
+  pub test_known : (cells : List ℕ) (w v : Option OfBuffer) (y : Tested) → w ≡ v → y ≡ test_of v cells l k ns → y ≡ test_of w cells l k ns
   test_known cells w v y q r = r ∙ sym (ap (λ x. test_of x cells l k ns) q)
+
+  pub word-known : (cells : List ℕ) (w v : OfBuffer) (y : Tested) → w ≡ v → y ≡ test_of (Some v) cells l k ns → y ≡ test_of (Some w) cells l k ns
+  word-known cells w v y q r = r ∙ sym (ap (λ x. test_of (Some x) cells l k ns) q)
 
   pub told_same : (cells : List ℕ) (r s : Reply) → r ≡ s → testing (answering r l) cells ≡ testing (answering s l) cells
   told_same cells r s e = ap (λ x. testing (answering x l) cells) e
@@ -128,4 +131,4 @@ module _ (l : List ℕ) (k : ℕ) (ns : Numbers) where
   pub told-lent : (cells : List ℕ) (a b : Answered) → a ≡ b → testing a cells ≡ testing b cells
   told-lent cells a b e = ap (λ x. testing x cells) e
 
-pub ruleset tested = (test_known, told_same, told-poked, told-lent)
+pub ruleset tested = (test_known, word-known, told_same, told-poked, told-lent)

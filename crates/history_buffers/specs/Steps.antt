@@ -8,13 +8,13 @@ use Rattle.history_words.specs.declared.Numbers.{Numbers}
 use Rattle.history_buffers.specs.Numbers.{no_number, one_number, two_numbers}
 use Rattle.history_buffers.specs.Buffers.{within_of, sum_of}
 
-pub no-number-known : (m k : Numbers) (b : Bool) → m ≡ k → b ≡ no_number k → b ≡ no_number m
+pub no-number-known : (m k : Option Numbers) (b : Bool) → m ≡ k → b ≡ no_number k → b ≡ no_number m
 no-number-known m k b q r = r ∙ sym (ap no_number q)
 
-pub one-number-known : (m k : Numbers) (x : Option ℕ) → m ≡ k → x ≡ one_number k → x ≡ one_number m
+pub one-number-known : (m k : Option Numbers) (x : Option ℕ) → m ≡ k → x ≡ one_number k → x ≡ one_number m
 one-number-known m k x q r = r ∙ sym (ap one_number q)
 
-pub two-numbers-known : (m k : Numbers) (x : Option (ℕ × ℕ)) → m ≡ k → x ≡ two_numbers k → x ≡ two_numbers m
+pub two-numbers-known : (m k : Option Numbers) (x : Option (ℕ × ℕ)) → m ≡ k → x ≡ two_numbers k → x ≡ two_numbers m
 two-numbers-known m k x q r = r ∙ sym (ap two_numbers q)
 
 pub within-most : (n most : ℕ) → most < n → most ≡ within_of n most

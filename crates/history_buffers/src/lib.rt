@@ -70,7 +70,7 @@ fn lend(lengths: [u32; BUFFERS], k: usize, most: usize, n: u32) -> Answered
     }
 }
 
-fn lend_line(lengths: [u32; BUFFERS], k: usize, most: usize, numbers: Numbers) -> Answered
+fn lend_line(lengths: [u32; BUFFERS], k: usize, most: usize, numbers: Option<Numbers>) -> Answered
     ensures { result ≡ lend_line lengths k most numbers }
 {
     let Some(n) = wanted::one_number(numbers) else {
@@ -102,7 +102,7 @@ fn sum(cells: &[u32]) -> u32
     cells.iter().fold(0, |h, cell| summed(h, *cell))
 }
 
-fn sum_line(cells: &[u32], lengths: [u32; BUFFERS], k: usize, numbers: Numbers) -> Reply
+fn sum_line(cells: &[u32], lengths: [u32; BUFFERS], k: usize, numbers: Option<Numbers>) -> Reply
     ensures { result ≡ sum_line cells.now lengths k numbers }
 {
     if wanted::no_number(numbers) {
@@ -123,7 +123,7 @@ fn peek(cells: &[u32], at: u32) -> Reply
     Reply::Cell(cells[index])
 }
 
-fn peek_line(cells: &[u32], numbers: Numbers) -> Reply
+fn peek_line(cells: &[u32], numbers: Option<Numbers>) -> Reply
     ensures { result ≡ peek_line cells.now numbers }
 {
     let Some(at) = wanted::one_number(numbers) else {
@@ -144,7 +144,7 @@ fn poke(cells: &mut [u32], at: u32, value: u32) -> Reply
     Reply::Cell(value)
 }
 
-fn poke_line(cells: &mut [u32], numbers: Numbers) -> Reply
+fn poke_line(cells: &mut [u32], numbers: Option<Numbers>) -> Reply
     ensures { poking result cells.new ≡ poke_line cells.old numbers }
 {
     let Some((at, value)) = wanted::two_numbers(numbers) else {
@@ -153,18 +153,24 @@ fn poke_line(cells: &mut [u32], numbers: Numbers) -> Reply
     poke(cells, at, value)
 }
 
-// ---- any of them, on buffer k
+// ---- any of them, on buffer k; a word that is none of them is a bad line
 
 #[tactic(auto, using(crate::specs::Laws::tested))]
 pub fn test(
     cells: &mut [u32],
     lengths: [u32; BUFFERS],
     k: usize,
-    word: OfBuffer,
-    numbers: Numbers,
+    word: Option<OfBuffer>,
+    numbers: Option<Numbers>,
 ) -> Answered
     ensures { testing result cells.new ≡ test_of word cells.old lengths k numbers }
 {
+    let Some(word) = word else {
+        return Answered {
+            reply: Reply::Bad,
+            lengths,
+        };
+    };
     match word {
         OfBuffer::Sum => Answered {
             reply: sum_line(cells, lengths, k, numbers),

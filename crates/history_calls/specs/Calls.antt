@@ -34,18 +34,19 @@ three_call OfThree.Value u e n = Some (on u e (uses (call.ask_value n)))
 three_call OfThree.NextSigned u e n = Some (on u e (uses (call.next_signed n)))
 three_call OfThree.PrevSigned u e n = Some (on u e (uses (call.prev_signed n)))
 
-abbrev pub name_call : OfName → ℕ → ℕ → List ℕ → Option Call
-name_call OfName.Work u e name = Some (on u e (opens (call.work name)))
-name_call OfName.Read u e name = Some (on u e (opens (call.read name)))
-name_call OfName.Rename u e name = Some (on u e (uses (call.rename name)))
+abbrev pub name_call : Option OfName → ℕ → ℕ → List ℕ → Option Call
+name_call (Some OfName.Work) u e name = Some (on u e (opens (call.work name)))
+name_call (Some OfName.Read) u e name = Some (on u e (opens (call.read name)))
+name_call (Some OfName.Rename) u e name = Some (on u e (uses (call.rename name)))
+name_call None u e name = None
 
 -- "NAME is all bytes after the space that follows E, up to the line's end, as they are (spaces too); where nothing follows E, with or
 -- without that space, it is the empty byte string."
-abbrev pub with_name : OfName → List ℕ → Option (ℕ × ℕ × ℕ) → Option Call
+abbrev pub with_name : Option OfName → List ℕ → Option (ℕ × ℕ × ℕ) → Option Call
 with_name w line (Some found) = name_call w found.0 found.1 (drop (found.2 + 1) line)
 with_name w line None = None
 
-unfoldable pub named_call : OfName → List ℕ → ℕ → Option Call
+unfoldable pub named_call : Option OfName → List ℕ → ℕ → Option Call
 named_call w line at = with_name w line (named_at line at)
 
 -- fresh, tidy
@@ -89,7 +90,7 @@ numbers_call line at =
 
 -- a line whose first word ends at a place
 abbrev pub call_from : Option OfName → List ℕ → ℕ → Option Call
-call_from (Some w) line at = named_call w line at
+call_from (Some w) line at = named_call (Some w) line at
 call_from None line at = numbers_call line at
 
 -- the call that a line of bytes asks for

@@ -14,7 +14,7 @@ use Rattle.history_lines.specs.declared.OfTwo.{OfTwo}
 use Rattle.history_lines.specs.declared.OfThree.{OfThree}
 use Rattle.history_lines.specs.declared.OfName.{OfName}
 use Rattle.history_lines.specs.declared.signed.SignedWrite.{SignedWrite}
-use Rattle.history_lines.specs.Spelling.{found, two_words, three_words, name_words}
+use Rattle.history_lines.specs.Spelling.{found, name_words}
 use Rattle.history_lines.specs.Naming.{named_at}
 use Rattle.history_lines.specs.Signing.{signed_write, signed_write_at}
 use Rattle.history_calls.specs.Calls.{two_call, three_call, name_call, named_call, with_name, two_word_call, three_word_call, call_of, call_with, signed_call, call_from, call_in}
@@ -27,37 +27,55 @@ module _ (s t : List ℕ) (y : Told) where
   pub three-known : (w k : OfThree) (u e n : ℕ) → w ≡ k → y ≡ told_of (three_call k u e n) s t → y ≡ told_of (three_call w u e n) s t
   three-known w k u e n q r = r ∙ sym (ap (λ x. told_of (three_call x u e n) s t) q)
 
-  pub name-known : (w k : OfName) (u e : ℕ) (name : List ℕ) → w ≡ k → y ≡ told_of (name_call k u e name) s t → y ≡ told_of (name_call w u e name) s t
+  pub name-known : (w k : Option OfName) (u e : ℕ) (name : List ℕ) → w ≡ k → y ≡ told_of (name_call k u e name) s t → y ≡ told_of (name_call w u e name) s t
   name-known w k u e name q r = r ∙ sym (ap (λ x. told_of (name_call x u e name) s t) q)
+
+  pub word-known : (w k : OfName) (u e : ℕ) (name : List ℕ) → w ≡ k → y ≡ told_of (name_call (Some k) u e name) s t → y ≡ told_of (name_call (Some w) u e name) s t
+  word-known w k u e name q r = r ∙ sym (ap (λ x. told_of (name_call (Some x) u e name) s t) q)
+
+  pub two-found : (w x : Option OfTwo) (u e : ℕ) → x ≡ w → y ≡ told_of (two_word_call x u e) s t → y ≡ told_of (two_word_call w u e) s t
+  two-found w x u e q r = r ∙ ap (λ z. told_of (two_word_call z u e) s t) q
+
+  pub three-found : (w x : Option OfThree) (u e n : ℕ) → x ≡ w → y ≡ told_of (three_word_call x u e n) s t → y ≡ told_of (three_word_call w u e n) s t
+  three-found w x u e n q r = r ∙ ap (λ z. told_of (three_word_call z u e n) s t) q
 
   -- ---- a word and its numbers
 
-  module _ (w : List ℕ) where
-    pub numbers-known : (m k : Numbers) → m ≡ k → y ≡ told_of (call_of w k) s t → y ≡ told_of (call_of w m) s t
-    numbers-known m k q r = r ∙ sym (ap (λ x. told_of (call_of w x) s t) q)
+  pub numbers-known : (w : List ℕ) (m k : Option Numbers) → m ≡ k → y ≡ told_of (call_with w k) s t → y ≡ told_of (call_with w m) s t
+  numbers-known w m k q r = r ∙ sym (ap (λ x. told_of (call_with w x) s t) q)
 
-    pub two-found : (x : Option OfTwo) (u e : ℕ) → x ≡ found two_words w → y ≡ told_of (two_word_call x u e) s t → y ≡ told_of (two_word_call (found two_words w) u e) s t
-    two-found x u e q r = r ∙ ap (λ z. told_of (two_word_call z u e) s t) q
+  pub these-known : (w : List ℕ) (m k : Numbers) → m ≡ k → y ≡ told_of (call_of w k) s t → y ≡ told_of (call_of w m) s t
+  these-known w m k q r = r ∙ sym (ap (λ x. told_of (call_of w x) s t) q)
 
-    pub three-found : (x : Option OfThree) (u e n : ℕ) → x ≡ found three_words w → y ≡ told_of (three_word_call x u e n) s t → y ≡ told_of (three_word_call (found three_words w) u e n) s t
-    three-found x u e n q r = r ∙ ap (λ z. told_of (three_word_call z u e n) s t) q
+  module _ (b : Bool) (w spelt : List ℕ) (c d : Option Call) (e : b ≡ sameb w spelt) where
+    pub word-here : b ≡ true → y ≡ told_of c s t → y ≡ told_of (cond (sameb w spelt) c d) s t
+    word-here q r = rw (sym e ∙ q) r
 
-    module _ (b : Bool) (spelt : List ℕ) (c d : Option Call) (e : b ≡ pointwise eqb w spelt) where
-      is : b ≡ sameb w spelt
-      is = e ∙ same-bytes w spelt
+    pub word-other : b ≡ false → y ≡ told_of d s t → y ≡ told_of (cond (sameb w spelt) c d) s t
+    word-other q r = rw (sym e ∙ q) r
 
-      pub word-here : b ≡ true → y ≡ told_of c s t → y ≡ told_of (cond (sameb w spelt) c d) s t
-      word-here q r = rw (sym is ∙ q) r
+  -- by the test that the slices' == makes
+  module _ (b : Bool) (w spelt : List ℕ) (c d : Option Call) (e : b ≡ pointwise eqb w spelt) where
+    pub equal-here : b ≡ true → y ≡ told_of c s t → y ≡ told_of (cond (sameb w spelt) c d) s t
+    equal-here q r = word-here b w spelt c d (e ∙ same-bytes w spelt) q r
 
-      pub word-other : b ≡ false → y ≡ told_of d s t → y ≡ told_of (cond (sameb w spelt) c d) s t
-      word-other q r = rw (sym is ∙ q) r
+    pub equal-other : b ≡ false → y ≡ told_of d s t → y ≡ told_of (cond (sameb w spelt) c d) s t
+    equal-other q r = word-other b w spelt c d (e ∙ same-bytes w spelt) q r
 
   -- ---- a line with a name
 
-  module _ (w : OfName) (line : List ℕ) (at : ℕ) where
+  module _ (w : Option OfName) (line : List ℕ) (at : ℕ) where
     named-read : (x : Option (ℕ × ℕ × ℕ)) → x ≡ named_at line at → y ≡ told_of (with_name w line x) s t → y ≡ told_of (named_call w line at) s t
     unfolding named_call
     named-read x e r = r ∙ ap (λ z. told_of (with_name w line z) s t) e
+
+    pub no-word : w ≡ None → y ≡ told_of None s t → y ≡ told_of (named_call w line at) s t
+    unfolding named_call
+    no-word q r = r ∙ nothing (named_at line at) ∙ sym (ap (λ v. told_of (with_name v line (named_at line at)) s t) q)
+      where
+        nothing : (x : Option (ℕ × ℕ × ℕ)) → told_of None s t ≡ told_of (with_name None line x) s t
+        nothing (Some found) = refl
+        nothing None = refl
 
     pub no-name-read : None ≡ named_at line at → y ≡ told_of None s t → y ≡ told_of (named_call w line at) s t
     no-name-read e r = named-read None e r
@@ -85,31 +103,27 @@ module _ (s t : List ℕ) (y : Told) where
 
   -- ---- a word and the numbers after it, plain ones or a signed one at the end
 
-  pub signed-write : (w : Option SignedWrite) (u n p : ℕ) (z : ℤ) → SFits w32 z → w ≡ Some (signed_write u n p z)
-      → y ≡ told_of (signed_call (Some (signed_write u n p (to_z w32 (of_z w32 z))))) s t → y ≡ told_of (signed_call w) s t
-  signed-write w u n p z f q r = r ∙ ap (λ x. told_of (signed_call (Some (signed_write u n p x))) s t) (to_z-of_z w32 z f) ∙ sym (ap (λ x. told_of (signed_call x) s t) q)
+  pub signed-read : (line : List ℕ) (at : ℕ) (w : Option SignedWrite) → w ≡ signed_write_at line at → y ≡ told_of (signed_call w) s t → y ≡ told_of (signed_call (signed_write_at line at)) s t
+  signed-read line at w q r = r ∙ ap (λ z. told_of (signed_call z) s t) q
 
-  module _ (line : List ℕ) (at : ℕ) where
-    pub numbers-read : (w : List ℕ) (m : Option Numbers) → m ≡ numbers_at line at → y ≡ told_of (call_with w m) s t → y ≡ told_of (call_with w (numbers_at line at)) s t
-    numbers-read w m q r = r ∙ ap (λ z. told_of (call_with w z) s t) q
+  pub numbers-read : (w line : List ℕ) (at : ℕ) (m : Option Numbers) → m ≡ numbers_at line at → y ≡ told_of (call_with w m) s t → y ≡ told_of (call_with w (numbers_at line at)) s t
+  numbers-read w line at m q r = r ∙ ap (λ z. told_of (call_with w z) s t) q
 
-    pub signed-read : (w : Option SignedWrite) → w ≡ signed_write_at line at → y ≡ told_of (signed_call w) s t → y ≡ told_of (signed_call (signed_write_at line at)) s t
-    signed-read w q r = r ∙ ap (λ z. told_of (signed_call z) s t) q
-
-    pub no-signed-write : None ≡ signed_write_at line at → y ≡ told_of None s t → y ≡ told_of (signed_call (signed_write_at line at)) s t
-    no-signed-write q r = signed-read None q r
+  module _ (w : Option SignedWrite) where
+    pub no-signed-write : w ≡ None → y ≡ told_of None s t → y ≡ told_of (signed_call w) s t
+    no-signed-write q r = r ∙ sym (ap (λ x. told_of (signed_call x) s t) q)
 
     -- a signed number comes out of its bits again
-    pub signed-there : (w : SignedWrite) → SFits w32 w.number → Some w ≡ signed_write_at line at
-        → y ≡ told_of (signed_call (Some (signed_write w.user w.entry w.pointer (to_z w32 (of_z w32 w.number))))) s t → y ≡ told_of (signed_call (signed_write_at line at)) s t
-    signed-there w f q r = signed-read (Some w) q (signed-write (Some w) w.user w.entry w.pointer w.number f refl r)
+    pub signed-write : (u n p : ℕ) (z : ℤ) → SFits w32 z → w ≡ Some (signed_write u n p z)
+        → y ≡ told_of (signed_call (Some (signed_write u n p (to_z w32 (of_z w32 z))))) s t → y ≡ told_of (signed_call w) s t
+    signed-write u n p z f q r = r ∙ ap (λ x. told_of (signed_call (Some (signed_write u n p x))) s t) (to_z-of_z w32 z f) ∙ sym (ap (λ x. told_of (signed_call x) s t) q)
 
-pub ruleset known = (tell-call, tell-signed, tell_none, two-known, three-known, name-known)
+pub ruleset known = (tell-call, tell-signed, tell_none, two-known, three-known, word-known)
 
-pub ruleset counted = (tell-call, tell-count, tell_none, numbers-known, word-here, word-other, two-found, three-found)
+pub ruleset counted = (tell-call, tell-count, tell_none, these-known, equal-here, equal-other, two-found, three-found)
 
 pub ruleset heard = (word_read)
 
-pub ruleset parted = (tell_none, word-here, word-other, numbers-read, no-signed-write)
+pub ruleset parted = (tell_none, equal-here, equal-other, signed-read, numbers-read, no-signed-write)
 
-pub ruleset spoken = (tell_none, no-name-read, name-follows, nothing-follows)
+pub ruleset spoken = (tell_none, no-word, name-known, no-name-read, name-follows, nothing-follows)

@@ -142,7 +142,8 @@ fn numbers_line(store: &mut [u32], tables: &mut [u32], line: &[u8], at: usize) -
 {
     let word = &line[0..at];
     if word == WRITE_SIGNED {
-        return signed::write_signed(store, tables, line, at);
+        let asked = history_lines::signed::signed_write_at(line, at);
+        return signed::write_signed(store, tables, asked);
     }
     match history_words::numbers_at(line, at) {
         Some(numbers) => numbered(store, tables, word, numbers),
@@ -156,7 +157,7 @@ pub fn perform(store: &mut [u32], tables: &mut [u32], line: &[u8]) -> Reply
 {
     let at = history_words::word_end(line, 0);
     match history_lines::of_name_word(&line[0..at]) {
-        Some(word) => named(store, tables, word, line, at),
+        Some(word) => named(store, tables, Some(word), line, at),
         None => numbers_line(store, tables, line, at),
     }
 }

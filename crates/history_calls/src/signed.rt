@@ -2,12 +2,12 @@
 ghost use Rattle.std.specs.Prelude.{◌≡◌};
 ghost use Rattle.answers.specs.Said.{said_signed};
 ghost use Rattle.cells.specs.Outcomes.{lent};
-ghost use Rattle.history_lines.specs.Signing.{signed_write_at};
 ghost use Rattle.history_calls.specs.Calls.{signed_call};
 ghost use Rattle.history_calls.specs.Told.{told, told_of, reply_signed};
 
 use crate::{Reply, replied};
 use answers::SignedAnswer;
+use history_lines::signed::SignedWrite;
 
 // Beside `replied`, for one function over both would take the reply to a done one as a parameter, and be no shorter.
 pub fn replied_signed(answer: SignedAnswer) -> Reply
@@ -19,11 +19,11 @@ pub fn replied_signed(answer: SignedAnswer) -> Reply
     }
 }
 
-// A line whose word is that of a signed write.
-pub fn write_signed(store: &mut [u32], tables: &mut [u32], line: &[u8], at: usize) -> Reply
-    ensures { told result (lent store.new tables.new) ≡ told_of (signed_call (signed_write_at line.now at)) store.old tables.old }
+// What the line of a signed write asks for; None is asked for by a line that is malformed.
+pub fn write_signed(store: &mut [u32], tables: &mut [u32], asked: Option<SignedWrite>) -> Reply
+    ensures { told result (lent store.new tables.new) ≡ told_of (signed_call asked) store.old tables.old }
 {
-    let Some(asked) = history_lines::signed::signed_write_at(line, at) else {
+    let Some(asked) = asked else {
         return Reply::Bad;
     };
     replied(call_write::write_signed(

@@ -49,84 +49,61 @@ lent_out l x = out (answering x.reply l) x.store x.tables x.others
 abbrev pub moved_out : List ℕ → List ℕ → List ℕ → Moving → Out
 moved_out l s t x = out (answering x.reply l) s t x.others
 
--- a call that is lent images or lists, and the numbers of its line
-abbrev pub call_by : OfLent → List ℕ → Numbers → List ℕ → List ℕ → List ℕ → Out
-call_by lending.Save l ns s t i = lent_out l (image_line l (one_number ns) true s t i)
-call_by lending.Load l ns s t i = lent_out l (image_line l (one_number ns) false s t i)
-call_by lending.Writes l ns s t i = lent_out l (run_line l ns true s t i)
-call_by lending.Nexts l ns s t i = lent_out l (run_line l ns false s t i)
-call_by lending.Up l ns s t i = moved_out l s t (move_line l ns true i)
-call_by lending.Down l ns s t i = moved_out l s t (move_line l ns false i)
-
--- "a number too many, too few, too large or malformed" is a bad line
-abbrev pub call_with : OfLent → List ℕ → Option Numbers → List ℕ → List ℕ → List ℕ → Out
-call_with w l (Some ns) s t i = call_by w l ns s t i
-call_with w l None s t i = out (answering Bad l) s t i
-
--- a line that asks for a call, by its first word, which ends at a place: one of those, or any other
-abbrev pub call_from : Option OfLent → List ℕ → List ℕ → ℕ → List ℕ → List ℕ → List ℕ → Out
-call_from (Some w) l line at s t i = call_with w l (numbers_at line at) s t i
-call_from None l line at s t i =
+-- a line that asks for a call, by its first word, which ends at a place: one that is lent images or lists, or any other
+abbrev pub call_by : Option OfLent → List ℕ → List ℕ → ℕ → List ℕ → List ℕ → List ℕ → Out
+call_by (Some lending.Save) l line at s t i = lent_out l (image_line l (one_number (numbers_at line at)) true s t i)
+call_by (Some lending.Load) l line at s t i = lent_out l (image_line l (one_number (numbers_at line at)) false s t i)
+call_by (Some lending.Writes) l line at s t i = lent_out l (run_line l (numbers_at line at) true s t i)
+call_by (Some lending.Nexts) l line at s t i = lent_out l (run_line l (numbers_at line at) false s t i)
+call_by (Some lending.Up) l line at s t i = moved_out l s t (move_line l (numbers_at line at) true i)
+call_by (Some lending.Down) l line at s t i = moved_out l s t (move_line l (numbers_at line at) false i)
+call_by None l line at s t i =
     let called = lent_call l line s t in
     out (answering called.reply l) called.cells.store called.cells.tables i
 
 unfoldable pub call_line : List ℕ → List ℕ → ℕ → List ℕ → List ℕ → List ℕ → Out
-call_line l line at s t i = call_from (found lent_words (part 0 at line)) l line at s t i
+call_line l line at s t i = call_by (found lent_words (part 0 at line)) l line at s t i
 
 -- ---- "Lines that are no calls, for tests"
 
 -- buffer k of all, which lies among the others from a place on
-unfoldable pub other_test : OfBuffer → (from size k : ℕ) → Numbers → List ℕ → List ℕ → Tested
+unfoldable pub other_test : Option OfBuffer → (from size k : ℕ) → Option Numbers → List ℕ → List ℕ → Tested
 other_test w from size k ns l i =
     let x = test_of w (other_at from size i) l k ns in
     cond (eqb (length i) others_length) (testing x.answered (with_other from size i x.cells)) (testing (answering Bad l) i)
 
-unfoldable pub image_test : OfBuffer → ℕ → Numbers → List ℕ → List ℕ → Tested
+unfoldable pub image_test : Option OfBuffer → ℕ → Option Numbers → List ℕ → List ℕ → Tested
 image_test w k ns l i = cond (ltb last_image k) (testing (answering Bad l) i) (other_test w (image_start k) image_buffer (first_image + k) ns l i)
 
-unfoldable pub list_test : OfBuffer → ℕ → Numbers → List ℕ → List ℕ → Tested
+unfoldable pub list_test : Option OfBuffer → ℕ → Option Numbers → List ℕ → List ℕ → Tested
 list_test w k ns l i = cond (ltb last_list k) (testing (answering Bad l) i) (other_test w (list_start k) list_buffer (first_list + k) ns l i)
 
-abbrev pub on_buffer : OfBuffer → Buffer → Numbers → List ℕ → List ℕ → List ℕ → List ℕ → Out
-on_buffer w buffer.Store ns l s t i =
+abbrev pub on_buffer : Option OfBuffer → Option Buffer → Option Numbers → List ℕ → List ℕ → List ℕ → List ℕ → Out
+on_buffer w (Some buffer.Store) ns l s t i =
     let x = test_of w s l 0 ns in
     out x.answered x.cells t i
-on_buffer w buffer.Tables ns l s t i =
+on_buffer w (Some buffer.Tables) ns l s t i =
     let x = test_of w t l 1 ns in
     out x.answered s x.cells i
-on_buffer w (buffer.Image k) ns l s t i =
+on_buffer w (Some (buffer.Image k)) ns l s t i =
     let x = image_test w k ns l i in
     out x.answered s t x.cells
-on_buffer w (buffer.List k) ns l s t i =
+on_buffer w (Some (buffer.List k)) ns l s t i =
     let x = list_test w k ns l i in
     out x.answered s t x.cells
+on_buffer w None ns l s t i = out (answering Bad l) s t i
 
--- the buffer that is named after the space at a place, and the numbers behind it; a buffer that is not there, or a number that is none, is a bad line
-abbrev pub beside : Buffer → Option Numbers → Option (Buffer × Numbers)
-beside b (Some ns) = Some (b, ns)
-beside b None = None
-
-abbrev pub named : Option Buffer → Option Numbers → Option (Buffer × Numbers)
-named (Some b) ns = beside b ns
-named None ns = None
-
-unfoldable pub buffer_at : List ℕ → ℕ → Option (Buffer × Numbers)
-buffer_at line at =
+-- the buffer is named after the space at a place, and the numbers are behind it
+unfoldable pub test_line : Option OfBuffer → List ℕ → ℕ → List ℕ → List ℕ → List ℕ → List ℕ → Out
+test_line w line at l s t i =
     let to = word_end line (at + 1) in
-    cond (leb (length line) at) None (named (found buffer_names (part (at + 1) to line)) (numbers_at line to))
-
-abbrev pub test_with : OfBuffer → Option (Buffer × Numbers) → List ℕ → List ℕ → List ℕ → List ℕ → Out
-test_with w (Some x) l s t i = on_buffer w x.0 x.1 l s t i
-test_with w None l s t i = out (answering Bad l) s t i
-
-unfoldable pub test_line : OfBuffer → List ℕ → ℕ → List ℕ → List ℕ → List ℕ → List ℕ → Out
-test_line w line at l s t i = test_with w (buffer_at line at) l s t i
+    cond (leb (length line) at) (out (answering Bad l) s t i) (on_buffer w (found buffer_names (part (at + 1) to line)) (numbers_at line to) l s t i)
 
 -- ---- any line
 
 -- by its first word, which ends at a place: one for tests, or any other
 abbrev pub line_from : Option OfBuffer → List ℕ → ℕ → List ℕ → List ℕ → List ℕ → List ℕ → Out
-line_from (Some w) line at l s t i = test_line w line at l s t i
+line_from (Some w) line at l s t i = test_line (Some w) line at l s t i
 line_from None line at l s t i = call_line l line at s t i
 
 unfoldable pub spoken_out : List ℕ → List ℕ → List ℕ → List ℕ → List ℕ → Out

@@ -27,7 +27,7 @@ use Rattle.history_lent.specs.Rooms.{image_buffer, list_buffer, last_image, last
 use Rattle.history_lent.specs.Images.{image_line}
 use Rattle.history_lent.specs.Lists.{run_line}
 use Rattle.history_lent.specs.Moves.{moving, move_line}
-use Rattle.history_desk.specs.Desk.{lent_call, Out, out, lent_out, moved_out, call_by, call_with, call_from, call_line, other_test, image_test, list_test, on_buffer, named, buffer_at, test_with, test_line, line_from, spoken_out, line_out}
+use Rattle.history_desk.specs.Desk.{lent_call, Out, out, lent_out, moved_out, call_by, call_line, other_test, image_test, list_test, on_buffer, test_line, line_from, spoken_out, line_out}
 
 module _ (l s t : List ℕ) where
   -- ---- a call on what is lent of store and tables
@@ -51,76 +51,47 @@ module _ (l s t : List ℕ) where
   module _ (i line : List ℕ) (at : ℕ) where
     -- ---- a call, by its first word
 
-    pub call-read : (x : Option OfLent) (y : Out) → x ≡ found lent_words (part 0 at line) → y ≡ call_from x l line at s t i → y ≡ call_line l line at s t i
+    pub call-read : (x : Option OfLent) (y : Out) → x ≡ found lent_words (part 0 at line) → y ≡ call_by x l line at s t i → y ≡ call_line l line at s t i
     unfolding call_line
-    call-read x y e r = r ∙ ap (λ z. call_from z l line at s t i) e
+    call-read x y e r = r ∙ ap (λ z. call_by z l line at s t i) e
 
-    pub numbers-read : (w : OfLent) (x : Option Numbers) (y : Out) → x ≡ numbers_at line at → y ≡ call_with w l x s t i → y ≡ call_with w l (numbers_at line at) s t i
-    numbers-read w x y e r = r ∙ ap (λ z. call_with w l z s t i) e
+    pub lent-known : (w k : OfLent) (y : Out) → w ≡ k → y ≡ call_by (Some k) l line at s t i → y ≡ call_by (Some w) l line at s t i
+    lent-known w k y q r = r ∙ sym (ap (λ x. call_by (Some x) l line at s t i) q)
 
-    pub calls-line : (r : Reply) (s' t' : List ℕ) → told r (lent s' t') ≡ lent_call l line s t → out (answering r l) s' t' i ≡ call_from None l line at s t i
+    module _ (ns : Option Numbers) (en : ns ≡ numbers_at line at) (r : Reply) (s' t' i' : List ℕ) where
+      module _ (x : Option ℕ) (ex : x ≡ one_number ns) where
+        pub saves-line : lending r s' t' i' ≡ image_line l x true s t i → out (answering r l) s' t' i' ≡ call_by (Some of_lent.Save) l line at s t i
+        unfolding lending
+        saves-line p = ap (lent_out l) (p ∙ ap (λ z. image_line l z true s t i) (ex ∙ ap one_number en))
+
+        pub loads-line : lending r s' t' i' ≡ image_line l x false s t i → out (answering r l) s' t' i' ≡ call_by (Some of_lent.Load) l line at s t i
+        unfolding lending
+        loads-line p = ap (lent_out l) (p ∙ ap (λ z. image_line l z false s t i) (ex ∙ ap one_number en))
+
+      pub writes_line : lending r s' t' i' ≡ run_line l ns true s t i → out (answering r l) s' t' i' ≡ call_by (Some of_lent.Writes) l line at s t i
+      unfolding lending
+      writes_line p = ap (lent_out l) (p ∙ ap (λ z. run_line l z true s t i) en)
+
+      pub nexts-line : lending r s' t' i' ≡ run_line l ns false s t i → out (answering r l) s' t' i' ≡ call_by (Some of_lent.Nexts) l line at s t i
+      unfolding lending
+      nexts-line p = ap (lent_out l) (p ∙ ap (λ z. run_line l z false s t i) en)
+
+    module _ (ns : Option Numbers) (en : ns ≡ numbers_at line at) (r : Reply) (i' : List ℕ) where
+      pub ups-line : moving r i' ≡ move_line l ns true i → out (answering r l) s t i' ≡ call_by (Some of_lent.Up) l line at s t i
+      unfolding moving
+      ups-line p = ap (moved_out l s t) (p ∙ ap (λ z. move_line l z true i) en)
+
+      pub downs-line : moving r i' ≡ move_line l ns false i → out (answering r l) s t i' ≡ call_by (Some of_lent.Down) l line at s t i
+      unfolding moving
+      downs-line p = ap (moved_out l s t) (p ∙ ap (λ z. move_line l z false i) en)
+
+    pub calls-line : (r : Reply) (s' t' : List ℕ) → told r (lent s' t') ≡ lent_call l line s t → out (answering r l) s' t' i ≡ call_by None l line at s t i
     unfolding told
     calls-line r s' t' p = ap (λ (y : Told). out (answering y.reply l) y.cells.store y.cells.tables i) p
 
-  module _ (i : List ℕ) (ns : Numbers) where
-    pub lent-known : (w k : OfLent) (y : Out) → w ≡ k → y ≡ call_by k l ns s t i → y ≡ call_by w l ns s t i
-    lent-known w k y q r = r ∙ sym (ap (λ x. call_by x l ns s t i) q)
-
-    module _ (r : Reply) (s' t' i' : List ℕ) where
-      module _ (x : Option ℕ) (ex : x ≡ one_number ns) where
-        pub saves-line : lending r s' t' i' ≡ image_line l x true s t i → out (answering r l) s' t' i' ≡ call_by of_lent.Save l ns s t i
-        unfolding lending
-        saves-line p = ap (lent_out l) (p ∙ ap (λ z. image_line l z true s t i) ex)
-
-        pub loads-line : lending r s' t' i' ≡ image_line l x false s t i → out (answering r l) s' t' i' ≡ call_by of_lent.Load l ns s t i
-        unfolding lending
-        loads-line p = ap (lent_out l) (p ∙ ap (λ z. image_line l z false s t i) ex)
-
-      pub writes_line : lending r s' t' i' ≡ run_line l ns true s t i → out (answering r l) s' t' i' ≡ call_by of_lent.Writes l ns s t i
-      unfolding lending
-      writes_line p = ap (lent_out l) p
-
-      pub nexts-line : lending r s' t' i' ≡ run_line l ns false s t i → out (answering r l) s' t' i' ≡ call_by of_lent.Nexts l ns s t i
-      unfolding lending
-      nexts-line p = ap (lent_out l) p
-
-    module _ (r : Reply) (i' : List ℕ) where
-      pub ups-line : moving r i' ≡ move_line l ns true i → out (answering r l) s t i' ≡ call_by of_lent.Up l ns s t i
-      unfolding moving
-      ups-line p = ap (moved_out l s t) p
-
-      pub downs-line : moving r i' ≡ move_line l ns false i → out (answering r l) s t i' ≡ call_by of_lent.Down l ns s t i
-      unfolding moving
-      downs-line p = ap (moved_out l s t) p
-
--- ---- the buffer that a line names, and the numbers behind it
-
-module _ (line : List ℕ) (at : ℕ) where
-  pub no_buffer : length line ≤ at → None ≡ buffer_at line at
-  unfolding buffer_at
-  no_buffer h = simp (le-leb (length line) at h)
-
-  module _ (to : ℕ) (h : at < length line) (e : to ≡ word_end line (at + 1)) where
-    read : (b : Option Buffer) (ns : Option Numbers) → b ≡ found buffer_names (part (at + 1) to line) → ns ≡ numbers_at line to → named b ns ≡ buffer_at line at
-    unfolding buffer_at
-    read b ns p q =
-        (λ j. named (p j) (q j))
-        ∙ ap (λ n. named (found buffer_names (part (at + 1) n line)) (numbers_at line n)) e
-        ∙ sym (simp (lt-leb (length line) at h))
-
-    pub no-name : (y : Option (Buffer × Numbers)) → None ≡ found buffer_names (part (at + 1) to line) → y ≡ None → y ≡ buffer_at line at
-    no-name y p r = r ∙ read None (numbers_at line to) p refl
-
-    module _ (b : Buffer) (p : Some b ≡ found buffer_names (part (at + 1) to line)) where
-      pub no-numbers : (y : Option (Buffer × Numbers)) → None ≡ numbers_at line to → y ≡ None → y ≡ buffer_at line at
-      no-numbers y q r = r ∙ read (Some b) None p q
-
-      pub buffer-read : (ns : Numbers) → Some ns ≡ numbers_at line to → Some (b, ns) ≡ buffer_at line at
-      buffer-read ns q = read (Some b) (Some ns) p q
-
 -- ---- a line for tests
 
-module _ (l : List ℕ) (w : OfBuffer) (ns : Numbers) (i : List ℕ) where
+module _ (l : List ℕ) (w : Option OfBuffer) (ns : Option Numbers) (i : List ℕ) where
   module _ (from size k : ℕ) where
     pub no-others : (length i ≡ others_length → ⊥) → testing (answering Bad l) i ≡ other_test w from size k ns l i
     unfolding other_test
@@ -155,28 +126,38 @@ module _ (l : List ℕ) (w : OfBuffer) (ns : Numbers) (i : List ℕ) where
     list-there y h e = e ∙ sym (simp (le-ltb last_list k h))
 
 module _ (l s t i : List ℕ) where
-  module _ (w : OfBuffer) (ns : Numbers) where
-    pub buffer-known : (b c : Buffer) (y : Out) → b ≡ c → y ≡ on_buffer w c ns l s t i → y ≡ on_buffer w b ns l s t i
+  module _ (w : Option OfBuffer) (ns : Option Numbers) where
+    pub buffer-known : (b c : Option Buffer) (y : Out) → b ≡ c → y ≡ on_buffer w c ns l s t i → y ≡ on_buffer w b ns l s t i
     buffer-known b c y q r = r ∙ sym (ap (λ x. on_buffer w x ns l s t i) q)
 
-    pub on_store : (r : Answered) (s' : List ℕ) → testing r s' ≡ test_of w s l 0 ns → out r s' t i ≡ on_buffer w buffer.Store ns l s t i
+    pub on_store : (r : Answered) (s' : List ℕ) → testing r s' ≡ test_of w s l 0 ns → out r s' t i ≡ on_buffer w (Some buffer.Store) ns l s t i
     on_store r s' e = ap (λ (x : Tested). out x.answered x.cells t i) e
 
-    pub on-tables : (r : Answered) (t' : List ℕ) → testing r t' ≡ test_of w t l 1 ns → out r s t' i ≡ on_buffer w buffer.Tables ns l s t i
+    pub on-tables : (r : Answered) (t' : List ℕ) → testing r t' ≡ test_of w t l 1 ns → out r s t' i ≡ on_buffer w (Some buffer.Tables) ns l s t i
     on-tables r t' e = ap (λ (x : Tested). out x.answered s x.cells i) e
 
-    pub on-image : (k : ℕ) (r : Answered) (i' : List ℕ) → testing r i' ≡ image_test w k ns l i → out r s t i' ≡ on_buffer w (buffer.Image k) ns l s t i
+    pub on-image : (k : ℕ) (r : Answered) (i' : List ℕ) → testing r i' ≡ image_test w k ns l i → out r s t i' ≡ on_buffer w (Some (buffer.Image k)) ns l s t i
     on-image k r i' e = ap (λ (x : Tested). out x.answered s t x.cells) e
 
-    pub on_list : (k : ℕ) (r : Answered) (i' : List ℕ) → testing r i' ≡ list_test w k ns l i → out r s t i' ≡ on_buffer w (buffer.List k) ns l s t i
+    pub on_list : (k : ℕ) (r : Answered) (i' : List ℕ) → testing r i' ≡ list_test w k ns l i → out r s t i' ≡ on_buffer w (Some (buffer.List k)) ns l s t i
     on_list k r i' e = ap (λ (x : Tested). out x.answered s t x.cells) e
 
-    pub on-nothing : out (answering Bad l) s t i ≡ test_with w None l s t i
+    pub on-nothing : out (answering Bad l) s t i ≡ on_buffer w None ns l s t i
     on-nothing = refl
 
-  pub test-read : (w : OfBuffer) (line : List ℕ) (at : ℕ) (x : Option (Buffer × Numbers)) (y : Out) → x ≡ buffer_at line at → y ≡ test_with w x l s t i → y ≡ test_line w line at l s t i
-  unfolding test_line
-  test-read w line at x y e r = r ∙ ap (λ z. test_with w z l s t i) e
+  module _ (w : Option OfBuffer) (line : List ℕ) (at : ℕ) where
+    pub no_buffer : length line ≤ at → out (answering Bad l) s t i ≡ test_line w line at l s t i
+    unfolding test_line
+    no_buffer h = simp (le-leb (length line) at h)
+
+    pub buffer-read : (to : ℕ) (b : Option Buffer) (ns : Option Numbers) (y : Out) → at < length line → to ≡ word_end line (at + 1) → b ≡ found buffer_names (part (at + 1) to line)
+        → ns ≡ numbers_at line to → y ≡ on_buffer w b ns l s t i → y ≡ test_line w line at l s t i
+    unfolding test_line
+    buffer-read to b ns y h e p q r =
+        r
+        ∙ (λ j. on_buffer w (p j) (q j) l s t i)
+        ∙ ap (λ n. on_buffer w (found buffer_names (part (at + 1) n line)) (numbers_at line n) l s t i) e
+        ∙ sym (simp (lt-leb (length line) at h))
 
   -- ---- any line
 
@@ -204,14 +185,12 @@ pub ruleset lent-calls = (call-lent)
 
 pub ruleset lent_lines = (saves-line, loads-line, writes_line, nexts-line, ups-line, downs-line, lent-known)
 
-pub ruleset call-lines = (calls-line, numbers-read, call-read)
+pub ruleset call-lines = (calls-line, call-read)
 
 pub ruleset other-tests = (no-others, other-there, no-image, image-there, no-list, list-there)
 
-pub ruleset buffer_lines = (on_store, on-tables, on-image, on_list, buffer-known)
+pub ruleset buffer_lines = (on_store, on-tables, on-image, on_list, on-nothing, buffer-known)
 
-pub ruleset buffers-read = (no_buffer, no-name, no-numbers, buffer-read)
-
-pub ruleset test-lines = (test-read)
+pub ruleset test-lines = (no_buffer, buffer-read)
 
 pub ruleset spoken-lines = (word_read, empty-line, comment-line, spoken-line)

@@ -1,7 +1,7 @@
 // Every line of a history, over the buffers that it names: store, tables, and the others, which lie in one slice.
 #![tactic(auto)]
 
-ghost use Rattle.std.specs.Prelude.{◌≡◌, ◌≤◌, length};
+ghost use Rattle.std.specs.Prelude.{◌≡◌, ◌≤◌, length, Some};
 ghost use Rattle.history_calls.specs.Told.{told};
 ghost use Rattle.cells.specs.Outcomes.{lent};
 ghost use Rattle.history_buffers.specs.Buffers.{answering};
@@ -10,7 +10,6 @@ ghost use Rattle.history_desk.specs.Desk.{lent_call, out, call_by, call_line, sp
 use history_buffers::{Answered, BUFFERS, STORE, TABLES};
 use history_calls::Reply;
 use history_lines::OfLent;
-use history_words::Numbers;
 
 pub mod tests; // the lines for tests
 
@@ -26,7 +25,7 @@ fn call(store: &mut [u32], tables: &mut [u32], lengths: [u32; BUFFERS], line: &[
     history_calls::perform(&mut store[0..s], &mut tables[0..t], line)
 }
 
-// A call that is lent one buffer more, or images alone.
+// A call that is lent one buffer more, or images alone: the word ends at a place, and its numbers are behind it.
 #[tactic(auto, using(crate::specs::Speaking::lent_lines))]
 fn lent_line(
     store: &mut [u32],
@@ -34,10 +33,12 @@ fn lent_line(
     others: &mut [u32],
     lengths: [u32; BUFFERS],
     word: OfLent,
-    numbers: Numbers,
+    line: &[u8],
+    at: usize,
 ) -> Reply
-    ensures { out (answering result lengths) store.new tables.new others.new ≡ call_by word lengths numbers store.old tables.old others.old }
+    ensures { out (answering result lengths) store.new tables.new others.new ≡ call_by (Some word) lengths line.now at store.old tables.old others.old }
 {
+    let numbers = history_words::numbers_at(line, at);
     let found = history_buffers::wanted::one_number(numbers);
     match word {
         OfLent::Save => history_lent::image_line(store, tables, others, lengths, found, true),
@@ -68,10 +69,7 @@ fn call_line(
     let Some(word) = history_lines::buffers::of_lent_word(&line[0..at]) else {
         return call(store, tables, lengths, line);
     };
-    let Some(numbers) = history_words::numbers_at(line, at) else {
-        return Reply::Bad;
-    };
-    lent_line(store, tables, others, lengths, word, numbers)
+    lent_line(store, tables, others, lengths, word, line, at)
 }
 
 // A line that is not passed over.
@@ -86,7 +84,7 @@ fn spoken(
 {
     let at = history_words::word_end(line, 0);
     match history_lines::buffers::of_buffer_word(&line[0..at]) {
-        Some(word) => tests::test_line(store, tables, others, lengths, word, line, at),
+        Some(word) => tests::test_line(store, tables, others, lengths, Some(word), line, at),
         None => Answered {
             reply: call_line(store, tables, others, lengths, line, at),
             lengths,

@@ -2,7 +2,7 @@
 ghost use Rattle.std.specs.Prelude.{◌≡◌, ◌+◌, ◌≤◌};
 ghost use Rattle.history_buffers.specs.Buffers.{testing};
 ghost use Rattle.history_lent.specs.Rooms.{others_length};
-ghost use Rattle.history_desk.specs.Desk.{out, other_test, image_test, list_test, on_buffer, buffer_at, test_line};
+ghost use Rattle.history_desk.specs.Desk.{out, other_test, image_test, list_test, on_buffer, test_line};
 
 use history_buffers::{Answered, BUFFERS, STORE, TABLES};
 use history_calls::Reply;
@@ -20,8 +20,8 @@ fn test_other(
     k: usize,
     from: usize,
     size: usize,
-    word: OfBuffer,
-    numbers: Numbers,
+    word: Option<OfBuffer>,
+    numbers: Option<Numbers>,
 ) -> Answered
     requires { from + size ≤ others_length }
     ensures { testing result others.new ≡ other_test word from size k numbers lengths others.old }
@@ -40,8 +40,8 @@ fn test_image(
     others: &mut [u32],
     lengths: [u32; BUFFERS],
     k: usize,
-    word: OfBuffer,
-    numbers: Numbers,
+    word: Option<OfBuffer>,
+    numbers: Option<Numbers>,
 ) -> Answered
     ensures { testing result others.new ≡ image_test word k numbers lengths others.old }
 {
@@ -68,8 +68,8 @@ fn test_list(
     others: &mut [u32],
     lengths: [u32; BUFFERS],
     k: usize,
-    word: OfBuffer,
-    numbers: Numbers,
+    word: Option<OfBuffer>,
+    numbers: Option<Numbers>,
 ) -> Answered
     ensures { testing result others.new ≡ list_test word k numbers lengths others.old }
 {
@@ -97,50 +97,46 @@ fn test_on(
     tables: &mut [u32],
     others: &mut [u32],
     lengths: [u32; BUFFERS],
-    word: OfBuffer,
-    buffer: Buffer,
-    numbers: Numbers,
+    word: Option<OfBuffer>,
+    buffer: Option<Buffer>,
+    numbers: Option<Numbers>,
 ) -> Answered
     ensures { out result store.new tables.new others.new ≡ on_buffer word buffer numbers lengths store.old tables.old others.old }
 {
     match buffer {
-        Buffer::Store => history_buffers::test(store, lengths, STORE, word, numbers),
-        Buffer::Tables => history_buffers::test(tables, lengths, TABLES, word, numbers),
-        Buffer::Image(k) => test_image(others, lengths, k, word, numbers),
-        Buffer::List(k) => test_list(others, lengths, k, word, numbers),
+        Some(Buffer::Store) => history_buffers::test(store, lengths, STORE, word, numbers),
+        Some(Buffer::Tables) => history_buffers::test(tables, lengths, TABLES, word, numbers),
+        Some(Buffer::Image(k)) => test_image(others, lengths, k, word, numbers),
+        Some(Buffer::List(k)) => test_list(others, lengths, k, word, numbers),
+        None => Answered {
+            reply: Reply::Bad,
+            lengths,
+        },
     }
 }
 
-// The buffer that is named after the space at a place, and the numbers behind it.
-fn buffer_at(line: &[u8], at: usize) -> Option<(Buffer, Numbers)>
-    ensures { result ≡ buffer_at line.now at }
-{
-    if line.len() <= at {
-        return None;
-    }
-    let from = at + 1;
-    let to = history_words::word_end(line, from);
-    let buffer = history_lines::buffers::buffer_named(&line[from..to])?;
-    let numbers = history_words::numbers_at(line, to)?;
-    Some((buffer, numbers))
-}
-
+// The buffer is named after the space at a place, and the numbers are behind it. A word that is none of those for tests is a bad
+// line, as is a buffer that is not there.
 pub fn test_line(
     store: &mut [u32],
     tables: &mut [u32],
     others: &mut [u32],
     lengths: [u32; BUFFERS],
-    word: OfBuffer,
+    word: Option<OfBuffer>,
     line: &[u8],
     at: usize,
 ) -> Answered
     ensures { out result store.new tables.new others.new ≡ test_line word line.now at lengths store.old tables.old others.old }
 {
-    let Some((buffer, numbers)) = buffer_at(line, at) else {
+    if line.len() <= at {
         return Answered {
             reply: Reply::Bad,
             lengths,
         };
-    };
+    }
+    let from = at + 1;
+    let to = history_words::word_end(line, from);
+    let buffer = history_lines::buffers::buffer_named(&line[from..to]);
+    let numbers = history_words::numbers_at(line, to);
     test_on(store, tables, others, lengths, word, buffer, numbers)
 }

@@ -1,4 +1,6 @@
 // What a line names that is not there, when each of its words is as its form wants it.
+ghost use Rattle.std.specs.Prelude.{IfSome};
+ghost use Rattle.std.specs.Str.Iter.{HasSubslice};
 
 use crate::forms::fields;
 use history_lent::sizes::LAST_IMAGE;
@@ -19,7 +21,10 @@ fn is_beyond(field: &str, word: &[u8]) -> bool {
 }
 
 // The first such field, from left to right.
-pub fn first_beyond(form: &'static str, words: &[u8]) -> Option<&'static str> {
+pub fn first_beyond(form: &'static str, words: &[u8]) -> Option<&'static str>
+    // It stands in the form.
+    ensures { IfSome result (λ field. HasSubslice form.now field.now) }
+{
     fields(form)
         .zip(words.split(|byte| *byte == b' ').skip(1))
         .find(|(field, word)| is_beyond(field, word))

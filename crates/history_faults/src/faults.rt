@@ -1,5 +1,7 @@
 // Where a line departs from its form: the first word that is wrong, from left to right; then a word too many; then what
 // is not there, or is lent twice.
+ghost use Rattle.std.specs.Prelude.{◌≡◌, IfSome};
+ghost use Rattle.std.specs.Str.Iter.{HasSubslice};
 
 use crate::beyond::first_beyond;
 use crate::forms::fields;
@@ -79,7 +81,12 @@ fn word_fault(field: &str, word: &[u8]) -> Option<Fault> {
 
 // Every field has its word: what follows the last is too much; if nothing does, something is not there, and if all is
 // there, one image is named twice.
-fn departure_at_end(form: &'static str, words: &[u8], rest: &[u8]) -> Departure {
+fn departure_at_end(form: &'static str, words: &[u8], rest: &[u8]) -> Departure
+    // The form is the one that was given.
+    ensures form { result.form.now ≡ form.now }
+    // The field stands in it.
+    ensures field { IfSome result.field (λ field. HasSubslice form.now field.now) }
+{
     if rest.is_empty() {
         let field = first_beyond(form, words);
         let fault = if field.is_some() {
@@ -101,7 +108,12 @@ fn departure_at_end(form: &'static str, words: &[u8], rest: &[u8]) -> Departure 
 }
 
 // The first departure, from left to right, of what follows a line's first word.
-pub fn find_departure(form: &'static str, words: &[u8]) -> Departure {
+pub fn find_departure(form: &'static str, words: &[u8]) -> Departure
+    // The form is the one that was given.
+    ensures form { result.form.now ≡ form.now }
+    // The field stands in it.
+    ensures field { IfSome result.field (λ field. HasSubslice form.now field.now) }
+{
     let mut rest = words;
     for field in fields(form) {
         let Some((word, left)) = next_word(rest) else {

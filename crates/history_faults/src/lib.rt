@@ -1,7 +1,9 @@
 // What is wrong with a bad line, in words. The text of histories leaves them to each program, so no contract says which
-// they are: proved is that these functions end and do nothing undefined. histories/bad_lines.expected has the words for
-// a line of each kind.
+// they are: proved is that these functions end and do nothing undefined, and that a form that is named stands in the
+// list of forms, and a field in its form. histories/bad_lines.expected has the words for a line of each kind.
 #![tactic(auto)]
+
+ghost use Rattle.history_faults.specs.Parts.{NamesParts};
 
 mod forms; // the form of every line
 mod words; // the words of a line, one after the other
@@ -35,7 +37,10 @@ impl Display for Explanation {
     }
 }
 
-pub fn explain(line: &[u8]) -> Explanation {
+pub fn explain(line: &[u8]) -> Explanation
+    // A form that it names stands in the list, and a field in the form.
+    ensures { NamesParts result }
+{
     if line.ends_with(b"\r") {
         return Explanation::Return;
     }

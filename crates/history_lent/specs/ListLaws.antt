@@ -1,5 +1,5 @@
 -- What the code of runs uses of their meaning, where cells are lent from 0 on. Assumes nothing.
-use Rattle.std.specs.Prelude.{ℕ, ◌+◌, ◌-◌, ◌≤◌, ◌<◌, ◌≡◌, Bool, true, false, List, [], ◌∷◌, ◌++◌, take}
+use Rattle.std.specs.Prelude.{ℕ, ◌+◌, ◌-◌, ◌≤◌, ◌<◌, ◌≡◌, Bool, true, false, List, [], ◌∷◌, ◌++◌, take, Option}
 use Rattle.std.proofs.Math.Path.{sym, ap}
 use Rattle.std.proofs.Common.{◌∙◌, arith}
 use Rattle.std.proofs.Math.Nat.{sub-zero}
@@ -115,5 +115,5 @@ pub ruleset run-calls = (no-list, no-lists, wrote-from, filled-into)
 
 -- ---- the numbers of a line
 
-pub run-known : (l : List ℕ) (b : Bool) (s t i : List ℕ) (m k : Numbers) (y : Lending) → m ≡ k → y ≡ run_line l k b s t i → y ≡ run_line l m b s t i
+pub run-known : (l : List ℕ) (b : Bool) (s t i : List ℕ) (m k : Option Numbers) (y : Lending) → m ≡ k → y ≡ run_line l k b s t i → y ≡ run_line l m b s t i
 run-known l b s t i m k y q r = r ∙ sym (ap (λ x. run_line l x b s t i) q)

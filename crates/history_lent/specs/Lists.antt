@@ -1,6 +1,6 @@
 -- Runs of elements: s, t and i are the cells of the buffers store, tables and of images and lists, l has the numbers of cells lent of each; u is a
 -- user, e an entry, p a pointer. Assumes nothing.
-use Rattle.std.specs.Prelude.{ℕ, ◌+◌, Bool, cond, List, ltb, eqb, length, take}
+use Rattle.std.specs.Prelude.{ℕ, ◌+◌, Bool, cond, List, ltb, eqb, length, take, Option, Some, None}
 use Rattle.rules.specs.Calls.{writes, fills}
 use Rattle.cells.specs.Outcomes.{run_out}
 use Rattle.cells.specs.Runs.{written_by, filled_by}
@@ -51,10 +51,11 @@ run_call l u e p k written s t i =
     cond (ltb last_list k) (lending Bad s t i)
     (cond (eqb (length i) others_length) (cond written (wrote_from ns nt n u e p k s t i) (filled_into ns nt n u e p k s t i)) (lending Bad s t i))
 
--- a number that is no buffer's, or too many or too few of them, is a bad line
-abbrev pub run_line : List ℕ → Numbers → Bool → List ℕ → List ℕ → List ℕ → Lending
-run_line l (Numbers.Four u e p k) written s t i = run_call l u e p k written s t i
-run_line l Numbers.Zero written s t i = lending Bad s t i
-run_line l (Numbers.One a) written s t i = lending Bad s t i
-run_line l (Numbers.Two a b) written s t i = lending Bad s t i
-run_line l (Numbers.Three a b c) written s t i = lending Bad s t i
+-- a number that is no buffer's, too many or too few of them, or a word that is no number, is a bad line
+abbrev pub run_line : List ℕ → Option Numbers → Bool → List ℕ → List ℕ → List ℕ → Lending
+run_line l (Some (Numbers.Four u e p k)) written s t i = run_call l u e p k written s t i
+run_line l (Some Numbers.Zero) written s t i = lending Bad s t i
+run_line l (Some (Numbers.One a)) written s t i = lending Bad s t i
+run_line l (Some (Numbers.Two a b)) written s t i = lending Bad s t i
+run_line l (Some (Numbers.Three a b c)) written s t i = lending Bad s t i
+run_line l None written s t i = lending Bad s t i

@@ -1,5 +1,5 @@
 -- What the code of moves uses of their meaning, where cells are lent from 0 on. Assumes nothing.
-use Rattle.std.specs.Prelude.{ℕ, ◌+◌, ◌-◌, ◌≤◌, ◌<◌, ◌≡◌, Bool, true, false, List, ◌++◌, length, take}
+use Rattle.std.specs.Prelude.{ℕ, ◌+◌, ◌-◌, ◌≤◌, ◌<◌, ◌≡◌, Bool, true, false, List, ◌++◌, length, take, Option}
 use Rattle.std.proofs.Math.Path.{sym, ap}
 use Rattle.std.proofs.Common.{◌∙◌, arith, take-take}
 use Rattle.std.proofs.Math.Nat.{sub-zero}
@@ -79,5 +79,5 @@ pub ruleset move-calls = (no-image, no_buffer, named-twice, no-buffers, moved-in
 
 -- ---- the numbers of a line
 
-pub move-known : (l : List ℕ) (b : Bool) (x : List ℕ) (m k : Numbers) (y : Moving) → m ≡ k → y ≡ move_line l k b x → y ≡ move_line l m b x
+pub move-known : (l : List ℕ) (b : Bool) (x : List ℕ) (m k : Option Numbers) (y : Moving) → m ≡ k → y ≡ move_line l k b x → y ≡ move_line l m b x
 move-known l b x m k y q r = r ∙ sym (ap (λ z. move_line l z b x) q)

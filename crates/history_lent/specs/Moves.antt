@@ -1,6 +1,6 @@
 -- An image moved from one form to the other: x has the cells of images and lists, l the numbers of cells lent of each buffer. Store and tables are not
 -- lent. Assumes nothing.
-use Rattle.std.specs.Prelude.{ℕ, ◌+◌, Bool, cond, List, ltb, eqb, length}
+use Rattle.std.specs.Prelude.{ℕ, ◌+◌, Bool, cond, List, ltb, eqb, length, Option, Some, None}
 use Rattle.combine.specs.Outcome.{Outcome}
 use Rattle.image.specs.Reformed.{up_out, down_out}
 use Rattle.history_calls.specs.declared.Reply.{Reply}
@@ -38,10 +38,11 @@ move_call l climbs i j segments x =
     (cond (eqb i j) (moving Bad x)
     (cond (eqb (length x) others_length) (moved_into n m climbs i j segments x) (moving Bad x))))
 
--- too many numbers or too few are a bad line
-abbrev pub move_line : (lengths : List ℕ) → Numbers → (climbs : Bool) (others : List ℕ) → Moving
-move_line l (Numbers.Three i j segments) climbs x = move_call l climbs i j segments x
-move_line l Numbers.Zero climbs x = moving Bad x
-move_line l (Numbers.One a) climbs x = moving Bad x
-move_line l (Numbers.Two a b) climbs x = moving Bad x
-move_line l (Numbers.Four a b c d) climbs x = moving Bad x
+-- too many numbers or too few, or a word that is no number, are a bad line
+abbrev pub move_line : (lengths : List ℕ) → Option Numbers → (climbs : Bool) (others : List ℕ) → Moving
+move_line l (Some (Numbers.Three i j segments)) climbs x = move_call l climbs i j segments x
+move_line l (Some Numbers.Zero) climbs x = moving Bad x
+move_line l (Some (Numbers.One a)) climbs x = moving Bad x
+move_line l (Some (Numbers.Two a b)) climbs x = moving Bad x
+move_line l (Some (Numbers.Four a b c d)) climbs x = moving Bad x
+move_line l None climbs x = moving Bad x

@@ -96,12 +96,12 @@ pub fn run_line(
     tables: &mut [u32],
     others: &mut [u32],
     lengths: [u32; BUFFERS],
-    numbers: Numbers,
+    numbers: Option<Numbers>,
     writes: bool,
 ) -> Reply
     ensures { lending result store.new tables.new others.new ≡ run_line lengths numbers writes store.old tables.old others.old }
 {
-    let Numbers::Four(user, entry, pointer, k) = numbers else {
+    let Some(Numbers::Four(user, entry, pointer, k)) = numbers else {
         return Reply::Bad;
     };
     run_call(

@@ -57,12 +57,12 @@ fn move_call(
 pub fn move_line(
     others: &mut [u32],
     lengths: [u32; BUFFERS],
-    numbers: Numbers,
+    numbers: Option<Numbers>,
     climbs: bool,
 ) -> Reply
     ensures { moving result others.new ≡ move_line lengths numbers climbs others.old }
 {
-    let Numbers::Three(i, j, segments) = numbers else {
+    let Some(Numbers::Three(i, j, segments)) = numbers else {
         return Reply::Bad;
     };
     move_call(others, lengths, i, j, segments, climbs)

@@ -1,11 +1,10 @@
 -- The turns of the loops that find pairs. Assumes nothing.
 use Prim.Native.Nat.{ℕ, suc, ◌+◌, ◌*◌, ◌≤◌, ◌<◌}
 use native.Mathlib.Omega.{arith}
-use mathlib.Core.Path.{◌≡◌, refl, sym, ap, ◌∙◌}
+use mathlib.Core.Path.{◌≡◌, sym, ap, ◌∙◌}
 use mathlib.Core.Logic.{⊎_elim}
 use mathlib.Core.Bool.{Bool, true}
 use mathlib.Core.List.{List}
-use denote.Enum.Bare.{sameb}
 use lib.ListN.{length, get_or, set}
 use lib.Seq.{paste, paste-suc}
 use Rattle.combine.specs.Below.{count_below, picked}
@@ -14,25 +13,8 @@ use Rattle.combine.specs.Laws.Numbers.{le-or-lt}
 use Rattle.combine.specs.Laws.Counts.{count-grows}
 use Rattle.combine.specs.Laws.Pairs.{paired-from, paired-to, length-paired}
 use Rattle.combine.specs.Laws.Picked.{picked-at}
-use Rattle.moves_pairs.specs.contracts.Kind.{the_type}
-use Rattle.moves_pairs.specs.declared.Kind.{Kind}
-use Rattle.moves_pairs.specs.declared.Kind.TheVariants.{Stays, ToMove, CanTake}
-use Rattle.moves_pairs.specs.Kinds.{same_kind}
 
 -- ---- the next of a kind
-
--- the derived test of kinds
-pub kind-same : (a b : Kind) → sameb the_type a b ≡ same_kind a b
-unfolding same_kind
-kind-same Stays Stays = refl
-kind-same Stays ToMove = refl
-kind-same Stays CanTake = refl
-kind-same ToMove Stays = refl
-kind-same ToMove ToMove = refl
-kind-same ToMove CanTake = refl
-kind-same CanTake Stays = refl
-kind-same CanTake ToMove = refl
-kind-same CanTake CanTake = refl
 
 pub next-below : (f : ℕ → Bool) (g n : ℕ) → count_below g f < count_below n f → g < n
 next-below f g n l = ⊎_elim (λ (h : n ≤ g). absurd (let c = count-grows n g f h in let z : ⊥ = omega arith in z)) (λ h. h) (le-or-lt n g)

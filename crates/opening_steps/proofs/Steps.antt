@@ -1,8 +1,12 @@
 -- The first or the last element leaves, as the code's steps give its premises. Assumes nothing.
-use Prim.Native.Nat.{ℕ, ◌+◌, ◌-◌, ◌≤◌, ◌<◌}
+use Prim.Native.Nat.{ℕ, suc, ◌+◌, ◌-◌, ◌≤◌, ◌<◌}
 use mathlib.Core.Path.{◌≡◌, sym, ap, ◌∙◌}
+use mathlib.Core.List.{List, [], ◌∷◌, ◌++◌}
+use native.Mathlib.Numerals.{add-one}
 use native.Mathlib.Omega.{arith}
 use lib.Dec.{ltb}
+use lib.ListN.{length, get_or, take, drop, set, replicate, length-drop}
+use lib.Seq.{length-take-le, take-suc, take_all, append_snoc, set_at, get_or-drop}
 use borrow.Author.Tests.{lt-ltb, le-ltb}
 use Rattle.placing.specs.declared.Segment.{Segment}
 use Rattle.placing.specs.declared.Position.{Position}
@@ -25,6 +29,28 @@ module _ (o : Opening) (b : ℕ) (eb : b ≡ value_of o 0) where
   place-from k x e = e ∙ ap (λ (j : ℕ). slot_of o.species j x) eb
 
 pub ruleset counts = (held-from, place-from)
+
+-- ---- a list of 32 without its first: the first i are those from the second on, the others zero
+
+module _ (g l : List Segment) (i : ℕ) (long : length g ≡ 32) (e : l ≡ take i (drop 1 g) ++ replicate (32 - i) (segment 0)) where
+  rest : length (drop 1 g) ≡ 31
+  rest = length-drop 1 g ∙ ap (λ (n : ℕ). n - 1) long
+
+  pub second-turn : i < 31 → (v : Segment) → v ≡ get_or g (i + 1) (segment 0) → set l i v ≡ take (i + 1) (drop 1 g) ++ replicate (32 - (i + 1)) (segment 0)
+  second-turn h v ev =
+      let z = segment 0 in
+      let m = drop 1 g in
+      let n : 32 - i ≡ suc (32 - (i + 1)) = omega arith in
+      let k : i + 1 ≡ 1 + i = omega arith in
+      let at : v ≡ get_or (drop 1 g) i z = ev ∙ ap (λ (j : ℕ). get_or g j z) k ∙ sym (get_or-drop 1 g i z) in
+      ap (λ (x : List Segment). set x i v) (e ∙ ap (λ (j : ℕ). take i m ++ replicate j z) n)
+      ∙ set_at (take i m) z (replicate (32 - (i + 1)) z) v i (length-take-le i m (omega (arith, rest)))
+      ∙ ap (λ (x : Segment). take i m ++ (x ∷ replicate (32 - (i + 1)) z)) at
+      ∙ sym (append_snoc (take i m) (get_or m i z) (replicate (32 - (i + 1)) z))
+      ∙ ap (λ (x : List Segment). x ++ replicate (32 - (i + 1)) z) (sym (take-suc m i z (omega (arith, rest))) ∙ ap (λ (j : ℕ). take j m) (sym (add-one i)))
+
+  pub second-done : i ≡ 31 → l ≡ drop 1 g ++ (segment 0 ∷ [])
+  second-done h = e ∙ ap (λ (j : ℕ). take j (drop 1 g) ++ replicate (32 - j) (segment 0)) h ∙ ap (λ (x : List Segment). x ++ (segment 0 ∷ [])) (take_all 31 (drop 1 g) (omega (arith, rest)))
 
 -- ---- the opening o, and m with its begin or its end moved from v to x; h and h' are what they hold
 

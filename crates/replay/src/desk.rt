@@ -1,6 +1,6 @@
 // The buffers that a history's lines name. Its bytes are gathered into lines; each line is answered where it ends.
 use crate::output;
-use arrayvec::ArrayVec;
+use arrayvec::{ArrayString, ArrayVec};
 use history_buffers::BUFFERS;
 use history_lent::sizes::{LENT, OTHERS_BUFFER, STORE_BUFFER, TABLES_BUFFER};
 use std::io::{self, Read, Write};
@@ -27,7 +27,7 @@ pub struct Desk<W: Write + Drop> {
     others: [u32; OTHERS_BUFFER],
     lengths: [u32; BUFFERS], // how many cells of each buffer are lent
     line: ArrayVec<u8, LINE>,
-    answers: ArrayVec<u8, GATHERED>, // that are not written yet
+    answers: ArrayString<GATHERED>, // that are not written yet
     writer: W,
 }
 
@@ -39,7 +39,7 @@ impl<W: Write + Drop> Desk<W> {
             others: [0; OTHERS_BUFFER],
             lengths: LENT,
             line: ArrayVec::new(),
-            answers: ArrayVec::new(),
+            answers: ArrayString::new(),
             writer,
         }
     }
@@ -55,8 +55,8 @@ impl<W: Write + Drop> Desk<W> {
         self.line.push(byte);
     }
 
-    // A line that has ended.
-    fn answer(&mut self) -> io::Result<()> {
+    // A line that has ended. Its answer is whole, for there is room for the longest.
+    fn answer(&mut self) {
         let line = self.line.as_slice();
         let told = history_desk::answer(
             &mut self.store,
@@ -67,25 +67,30 @@ impl<W: Write + Drop> Desk<W> {
         );
         let lengths = told.lengths;
         self.lengths = lengths;
-        output::say(&mut self.answers, told.reply, line)?;
+        let _whole = output::say(&mut self.answers, told.reply, line);
         self.line.clear();
-        if GATHERED - ANSWER < self.answers.len() {
-            self.write()?;
-        }
-        Ok(())
+    }
+
+    // Whether the longest answer may not fit any more.
+    fn is_full(&self) -> bool {
+        GATHERED - ANSWER < self.answers.len()
     }
 
     fn write(&mut self) -> io::Result<()> {
-        self.writer.write_all(self.answers.as_slice())?;
+        self.writer.write_all(self.answers.as_str().as_bytes())?;
         self.answers.clear();
         Ok(())
     }
 
     fn take_bytes(&mut self, input: &[u8]) -> io::Result<()> {
         for byte in input {
-            match *byte {
-                b'\n' => self.answer()?,
-                kept => self.keep(kept),
+            if *byte != b'\n' {
+                self.keep(*byte);
+                continue;
+            }
+            self.answer();
+            if self.is_full() {
+                self.write()?;
             }
         }
         Ok(())
@@ -113,7 +118,7 @@ impl<W: Write + Drop> Desk<W> {
     // "the last one may lack" its newline
     pub fn finish(&mut self) -> io::Result<()> {
         if !self.line.is_empty() {
-            self.answer()?;
+            self.answer();
         }
         self.write()
     }

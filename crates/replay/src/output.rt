@@ -1,19 +1,19 @@
 // The answers, written as text.
 use history_calls::Reply;
-use std::io;
+use std::fmt;
 
 // The answer to a line.
-pub fn say<W: io::Write>(writer: &mut W, reply: Reply, line: &[u8]) -> io::Result<()> {
+pub fn say<W: fmt::Write>(text: &mut W, reply: Reply, line: &[u8]) -> fmt::Result {
     match reply {
-        Reply::Done(n) => writeln!(writer, "done {n}"),
-        Reply::DoneSigned(n) => writeln!(writer, "done {n}"),
-        Reply::Refused(n) => writeln!(writer, "refused {n}"),
-        Reply::Rest(left, number) => writeln!(writer, "rest {left} {number}"),
-        Reply::Filled(many, number) => writeln!(writer, "filled {many} {number}"),
-        Reply::Lent(n) => writeln!(writer, "lent {n}"),
-        Reply::Cell(n) => writeln!(writer, "cell {n}"),
-        Reply::Sum(n) => writeln!(writer, "sum {n}"),
-        Reply::Bad => writeln!(writer, "? {}", history_faults::explain(line)),
+        Reply::Done(n) => writeln!(text, "done {n}"),
+        Reply::DoneSigned(n) => writeln!(text, "done {n}"),
+        Reply::Refused(n) => writeln!(text, "refused {n}"),
+        Reply::Rest(left, number) => writeln!(text, "rest {left} {number}"),
+        Reply::Filled(many, number) => writeln!(text, "filled {many} {number}"),
+        Reply::Lent(n) => writeln!(text, "lent {n}"),
+        Reply::Cell(n) => writeln!(text, "cell {n}"),
+        Reply::Sum(n) => writeln!(text, "sum {n}"),
+        Reply::Bad => writeln!(text, "? {}", history_faults::explain(line)),
         Reply::Nothing => Ok(()),
     }
 }

@@ -8,8 +8,7 @@ ghost use Rattle.tables.specs.Fields.{is_used};
 ghost use Rattle.tables.specs.Records.{clash};
 ghost use Rattle.sound_clashes.specs.Halves.{kinb, Halved};
 
-use placing::{RECORD_LENGTH, RECORDS_START};
-use sound_keys::Keys;
+use placing::{PLACES, RECORD_LENGTH, RECORDS_START};
 use tables::layout;
 
 // Of one owner, or both public.
@@ -28,14 +27,20 @@ fn kin(left: &[u32], right: &[u32]) -> bool
 
 // Whether the used record at place p clashes with the one at place q before it. Names that agree at all mostly agree at
 // their beginning, so that the later half is compared first.
-pub fn clashes(tables: &[u32], keys: &Keys, p: usize, q: usize) -> bool
-    requires { Halved tables.now keys.now.high keys.now.low (p + 1) × (q < p) × (is_used (record_at tables.now p) ≡ true) }
+pub fn clashes(
+    tables: &[u32],
+    high: &[u64; PLACES],
+    low: &[u64; PLACES],
+    p: usize,
+    q: usize,
+) -> bool
+    requires { Halved tables.now high.now low.now (p + 1) × (q < p) × (is_used (record_at tables.now p) ≡ true) }
     ensures { result ≡ clash (record_at tables.now p) (record_at tables.now q) }
 {
-    if keys.low[p] != keys.low[q] {
+    if low[p] != low[q] {
         return false;
     }
-    if keys.high[p] != keys.high[q] {
+    if high[p] != high[q] {
         return false;
     }
     let here = RECORDS_START + RECORD_LENGTH * p;

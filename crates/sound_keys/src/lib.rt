@@ -94,18 +94,18 @@ fn is_new(shorts: &[u32], p: usize) -> bool
 
 // Whether the short keys tell the record at place p from all before it. They are asked from FIRST_ASKED on: fewer
 // records are compared one by one in less time than two rows are searched.
-pub fn apart(keys: &Keys, private: u32, p: usize) -> bool
-    requires { p < places }
-    ensures { result ≡ apartb keys.now.owned keys.now.public private p }
+pub fn apart(owned: &[u32], public: &[u32], private: u32, p: usize) -> bool
+    requires { (length owned.now ≡ places) × (length public.now ≡ places) × (p < places) }
+    ensures { result ≡ apartb owned.now public.now private p }
 {
     if p < FIRST_ASKED {
         return false;
     }
-    if !is_new(&keys.owned, p) {
+    if !is_new(owned, p) {
         return false;
     }
     if private != 0 {
         return true;
     }
-    is_new(&keys.public, p)
+    is_new(public, p)
 }

@@ -25,11 +25,12 @@ fn alone(tables: &[u32], keys: &Keys, p: usize) -> bool
     ensures { result ≡ no_clashb tables.now p }
 {
     // Records that clash have one short key: where no record before has it, none is compared one by one.
-    if sound_keys::apart(keys, tables[FIRST_PRIVATE + RECORD_LENGTH * p], p) {
+    let private = tables[FIRST_PRIVATE + RECORD_LENGTH * p];
+    if sound_keys::apart(&keys.owned, &keys.public, private, p) {
         return true;
     }
     for q in 0..p {
-        if sound_clashes::clashes(tables, keys, p, q) {
+        if sound_clashes::clashes(tables, &keys.high, &keys.low, p, q) {
             return false;
         }
     }

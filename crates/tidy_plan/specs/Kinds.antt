@@ -1,8 +1,7 @@
 -- What a segment is to a tidying. Assumes nothing.
 use Rattle.std.specs.Prelude.{ℕ, cond, eqb, ltb, leb}
-use Rattle.moves_pairs.specs.declared.Kind.{Kind}
-use Rattle.moves_pairs.specs.Kinds.{stays, to_move, can_take}
+use Rattle.moves_pairs.specs.Kinds.{to_move, can_take}
 
 -- the mark is 0 where no list names the segment; so many are listed
-unfoldable pub kind_of : (mark segment listed : ℕ) → Kind
-kind_of m g low = cond (eqb m 0) (cond (ltb g low) can_take stays) (cond (leb low g) to_move stays)
+unfoldable pub kind_of : (mark segment listed : ℕ) → ℕ
+kind_of m g low = cond (eqb m 0) (cond (ltb g low) can_take 0) (cond (leb low g) to_move 0)

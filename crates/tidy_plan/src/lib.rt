@@ -8,40 +8,37 @@ ghost use Rattle.placing.specs.Sizes.{most_segments};
 ghost use Rattle.segments.specs.Moves.{is_high, tidy_moves};
 ghost use Rattle.tables.specs.Laws.Sound.{Ranged};
 ghost use Rattle.cells.specs.Says.{house_of};
-ghost use Rattle.moves_pairs.specs.Kinds.{stays};
 ghost use Rattle.tidy_plan.specs.Kinds.{kind_of};
 
 use free_count::MARKS;
-use moves_pairs::Kind;
+use moves_pairs::{CAN_TAKE, TO_MOVE};
 
 // A pair of numbers for each segment at the most.
 pub const ROOM: usize = 2 * MARKS;
 
-fn kind(mark: u8, number: usize, low: usize) -> Kind
+fn kind(mark: u32, number: usize, low: usize) -> u32
     ensures { result ≡ kind_of mark number low }
 {
     if mark != 0 {
         if low <= number {
-            return Kind::ToMove;
+            return TO_MOVE;
         }
-        return Kind::Stays;
+        return 0;
     }
     if number < low {
-        return Kind::CanTake;
+        return CAN_TAKE;
     }
-    Kind::Stays
+    0
 }
 
-// The kinds of the first numbers, by the marks of what is listed.
-fn sort(marks: &[u8; MARKS], segments: usize, low: usize) -> [Kind; MARKS]
-    requires { segments ≤ most_segments }
-    ensures { (g : ℕ) → g < segments → get_or result g stays ≡ kind_of (get_or marks.now g 0) g low }
+// The marks of what is listed become kinds.
+fn sort(marks: &mut [u32; MARKS], segments: usize, low: usize)
+    requires { (length marks.old ≡ most_segments) × (segments ≤ most_segments) }
+    ensures { (g : ℕ) → g < segments → get_or marks.new g 0 ≡ kind_of (get_or marks.old g 0) g low }
 {
-    let mut kinds = [Kind::Stays; MARKS];
     for number in 0..segments {
-        kinds[number] = kind(marks[number], number, low);
+        marks[number] = kind(marks[number], number, low);
     }
-    kinds
 }
 
 // The moves, as pairs in the first places of the room, and how many they are.
@@ -51,7 +48,7 @@ pub fn plan(tables: &[u32], room: &mut [u32]) -> usize
     ensures count { result ≡ count_below (house_of tables.now).segments (is_high (house_of tables.now)) }
     ensures room_after { take (2 * result) room.new ≡ tidy_moves (house_of tables.now) }
 {
-    let mut marks = [0u8; MARKS];
+    let mut marks = [0u32; MARKS];
     free_count::mark_lists(tables, &mut marks);
     let segments = tables[0];
     let low = segments - free_count::unmarked(&marks, segments);
@@ -60,7 +57,7 @@ pub fn plan(tables: &[u32], room: &mut [u32]) -> usize
     if count == 0 {
         return 0;
     }
-    let kinds = sort(&marks, segments as usize, low as usize);
-    moves_pairs::pairs(&kinds, segments as usize, count, room);
+    sort(&mut marks, segments as usize, low as usize);
+    moves_pairs::pairs(&marks, segments as usize, count, room);
     count
 }

@@ -14,5 +14,5 @@ returns-then-not-concerns c =
 pub returns : goal.returns
 returns c =
     let a = c.args in
-    c.eq.ensures
+    c.same_cells.ensures
     ∙ as-named a.wanted a.name.now a.row.now c.if-row-ne1.false (sym c.concerns.ensures ∙ c.if-not-concerns.false)

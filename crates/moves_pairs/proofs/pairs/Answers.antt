@@ -8,7 +8,7 @@ use lib.Seq.{paste, paste-zero}
 use Rattle.combine.specs.Below.{picked}
 use Rattle.combine.specs.Laws.Below.{count-hit}
 use Rattle.combine.specs.Laws.Counts.{count-start}
-use Rattle.moves_pairs.specs.Kinds.{is_kind, to_move, can_take}
+use Rattle.moves_pairs.specs.Kinds.{is_kind}
 use Rattle.combine.specs.Lists.{paired}
 use Rattle.combine.specs.Laws.Picked.{length-picked}
 use Rattle.moves_pairs.proofs.Turns.{pair_turn, at-hand}
@@ -16,7 +16,7 @@ use Rattle.moves_pairs.proofs.pairs.Goals as goal
 
 pub loop-pair-init : goal.loop-pair-init
 loop-pair-init c =
-    (sym (count-start _), sym (count-start _), paste-zero c.args.room.now 0 (paired (picked c.args.segments (is_kind c.args.kinds.now to_move)) (picked c.args.segments (is_kind c.args.kinds.now can_take))))
+    (sym (count-start _), sym (count-start _), paste-zero c.args.room.now 0 (paired (picked c.args.segments (is_kind c.args.kinds.now 1)) (picked c.args.segments (is_kind c.args.kinds.now 2))))
 
 pub next_of-source-requires : goal.next_of-source-requires
 next_of-source-requires c =
@@ -42,8 +42,8 @@ pub loop-pair-preserved : goal.loop-pair-preserved
 loop-pair-preserved c =
     let l = c.loop-pair in
     let n = c.args.segments in
-    let f = is_kind c.args.kinds.now to_move in
-    let g = is_kind c.args.kinds.now can_take in
+    let f = is_kind c.args.kinds.now 1 in
+    let g = is_kind c.args.kinds.now 2 in
     let a = c.next_of-source in
     let b = c.next_of-target in
     let few : length (picked n f) ≤ length (picked n g) = omega (arith, length-picked n f, length-picked n g, c.requires.1, c.requires.2) in (
@@ -59,4 +59,4 @@ pub returns : goal.returns
 returns c =
     let l = c.loop-pair in
     let e : l.pair ≡ c.args.count = omega arith in
-    l.invariant.2 ∙ ap (λ (k : ℕ). paste c.args.room.now 0 (paired (picked c.args.segments (is_kind c.args.kinds.now to_move)) (picked c.args.segments (is_kind c.args.kinds.now can_take))) (2 * k)) e
+    l.invariant.2 ∙ ap (λ (k : ℕ). paste c.args.room.now 0 (paired (picked c.args.segments (is_kind c.args.kinds.now 1)) (picked c.args.segments (is_kind c.args.kinds.now 2))) (2 * k)) e

@@ -27,14 +27,18 @@ returns-then-count-eq0 c =
       room_after = none-high (house_of t) none;
     }
 
+pub sort-requires : goal.sort-requires
+sort-requires c =
+    (c.mark_lists.ensures.size, c.requires.0.3)
+
 pub pairs-requires : goal.pairs-requires
 pairs-requires c =
     let t = c.args.tables.now in
     let m = c.mark_lists in
     let u = c.unmarked in
     let gaps = c.unmarked-count in
-    let k = c.sort-kinds in
-    let kinds = k.result in
+    let k = c.sort in
+    let kinds = c.sort.new.marks in
     let many = kinds-counted t m.new.marks u.result m.ensures.by_index u.ensures kinds c.requires.0 k.ensures gaps.result gaps.ensures in (
       c.requires.0.3,
       many,
@@ -48,11 +52,11 @@ returns c =
     let m = c.mark_lists in
     let u = c.unmarked in
     let gaps = c.unmarked-count in
-    let k = c.sort-kinds in
+    let k = c.sort in
     let room = c.args.room.now in
     let p = c.pairs in
     let after = c.pairs.new.room in record {
-      size = plan-size t m.new.marks u.result m.ensures.by_index u.ensures k.result c.requires.0 k.ensures gaps.result gaps.ensures room after c.requires.1 p.ensures;
+      size = plan-size t m.new.marks u.result m.ensures.by_index u.ensures k.new.marks c.requires.0 k.ensures gaps.result gaps.ensures room after c.requires.1 p.ensures;
       count = plan-count t m.new.marks u.result m.ensures.by_index u.ensures gaps.result gaps.ensures;
-      room_after = plan-moves t m.new.marks u.result m.ensures.by_index u.ensures k.result c.requires.0 k.ensures gaps.result gaps.ensures room after c.requires.1 p.ensures;
+      room_after = plan-moves t m.new.marks u.result m.ensures.by_index u.ensures k.new.marks c.requires.0 k.ensures gaps.result gaps.ensures room after c.requires.1 p.ensures;
     }

@@ -1,0 +1,2 @@
+-- Proofs about the parts of a text. Assumes nothing.
+pub mod Cuts

@@ -1,0 +1,2 @@
+-- The parts of a text. Assumes nothing.
+pub mod Parts
