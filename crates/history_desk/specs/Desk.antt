@@ -49,14 +49,18 @@ lent_out l x = out (answering x.reply l) x.store x.tables x.others
 abbrev pub moved_out : List ℕ → List ℕ → List ℕ → Moving → Out
 moved_out l s t x = out (answering x.reply l) s t x.others
 
--- a line that asks for a call, by its first word, which ends at a place: one that is lent images or lists, or any other
+-- a call that is lent images or lists, by the numbers of its line
+abbrev pub call_with : OfLent → List ℕ → Option Numbers → List ℕ → List ℕ → List ℕ → Out
+call_with lending.Save l ns s t i = lent_out l (image_line l (one_number ns) true s t i)
+call_with lending.Load l ns s t i = lent_out l (image_line l (one_number ns) false s t i)
+call_with lending.Writes l ns s t i = lent_out l (run_line l ns true s t i)
+call_with lending.Nexts l ns s t i = lent_out l (run_line l ns false s t i)
+call_with lending.Up l ns s t i = moved_out l s t (move_line l ns true i)
+call_with lending.Down l ns s t i = moved_out l s t (move_line l ns false i)
+
+-- a line that asks for a call, by its first word, which ends at a place: one of those, or any other
 abbrev pub call_by : Option OfLent → List ℕ → List ℕ → ℕ → List ℕ → List ℕ → List ℕ → Out
-call_by (Some lending.Save) l line at s t i = lent_out l (image_line l (one_number (numbers_at line at)) true s t i)
-call_by (Some lending.Load) l line at s t i = lent_out l (image_line l (one_number (numbers_at line at)) false s t i)
-call_by (Some lending.Writes) l line at s t i = lent_out l (run_line l (numbers_at line at) true s t i)
-call_by (Some lending.Nexts) l line at s t i = lent_out l (run_line l (numbers_at line at) false s t i)
-call_by (Some lending.Up) l line at s t i = moved_out l s t (move_line l (numbers_at line at) true i)
-call_by (Some lending.Down) l line at s t i = moved_out l s t (move_line l (numbers_at line at) false i)
+call_by (Some w) l line at s t i = call_with w l (numbers_at line at) s t i
 call_by None l line at s t i =
     let called = lent_call l line s t in
     out (answering called.reply l) called.cells.store called.cells.tables i

@@ -27,7 +27,8 @@ use Rattle.history_lent.specs.Rooms.{image_buffer, list_buffer, last_image, last
 use Rattle.history_lent.specs.Images.{image_line}
 use Rattle.history_lent.specs.Lists.{run_line}
 use Rattle.history_lent.specs.Moves.{moving, move_line}
-use Rattle.history_desk.specs.Desk.{lent_call, Out, out, lent_out, moved_out, call_by, call_line, other_test, image_test, list_test, on_buffer, test_line, line_from, spoken_out, line_out}
+use Rattle.history_desk.specs.Lent.{with-known, saves-with, loads-with, writes-with, nexts-with, ups-with, downs-with}
+use Rattle.history_desk.specs.Desk.{lent_call, Out, out, call_with, call_by, call_line, other_test, image_test, list_test, on_buffer, test_line, line_from, spoken_out, line_out}
 
 module _ (l s t : List ℕ) where
   -- ---- a call on what is lent of store and tables
@@ -56,34 +57,31 @@ module _ (l s t : List ℕ) where
     call-read x y e r = r ∙ ap (λ z. call_by z l line at s t i) e
 
     pub lent-known : (w k : OfLent) (y : Out) → w ≡ k → y ≡ call_by (Some k) l line at s t i → y ≡ call_by (Some w) l line at s t i
-    lent-known w k y q r = r ∙ sym (ap (λ x. call_by (Some x) l line at s t i) q)
+    lent-known = with-known l s t i (numbers_at line at)
+
+    pub numbers-read : (w : OfLent) (x : Option Numbers) (y : Out) → x ≡ numbers_at line at → y ≡ call_with w l x s t i → y ≡ call_with w l (numbers_at line at) s t i
+    numbers-read w x y e r = r ∙ ap (λ z. call_with w l z s t i) e
 
     module _ (ns : Option Numbers) (en : ns ≡ numbers_at line at) (r : Reply) (s' t' i' : List ℕ) where
       module _ (x : Option ℕ) (ex : x ≡ one_number ns) where
         pub saves-line : lending r s' t' i' ≡ image_line l x true s t i → out (answering r l) s' t' i' ≡ call_by (Some of_lent.Save) l line at s t i
-        unfolding lending
-        saves-line p = ap (lent_out l) (p ∙ ap (λ z. image_line l z true s t i) (ex ∙ ap one_number en))
+        saves-line p = numbers-read of_lent.Save ns _ en (saves-with l s t i ns r s' t' i' x ex p)
 
         pub loads-line : lending r s' t' i' ≡ image_line l x false s t i → out (answering r l) s' t' i' ≡ call_by (Some of_lent.Load) l line at s t i
-        unfolding lending
-        loads-line p = ap (lent_out l) (p ∙ ap (λ z. image_line l z false s t i) (ex ∙ ap one_number en))
+        loads-line p = numbers-read of_lent.Load ns _ en (loads-with l s t i ns r s' t' i' x ex p)
 
       pub writes_line : lending r s' t' i' ≡ run_line l ns true s t i → out (answering r l) s' t' i' ≡ call_by (Some of_lent.Writes) l line at s t i
-      unfolding lending
-      writes_line p = ap (lent_out l) (p ∙ ap (λ z. run_line l z true s t i) en)
+      writes_line p = numbers-read of_lent.Writes ns _ en (writes-with l s t i ns r s' t' i' p)
 
       pub nexts-line : lending r s' t' i' ≡ run_line l ns false s t i → out (answering r l) s' t' i' ≡ call_by (Some of_lent.Nexts) l line at s t i
-      unfolding lending
-      nexts-line p = ap (lent_out l) (p ∙ ap (λ z. run_line l z false s t i) en)
+      nexts-line p = numbers-read of_lent.Nexts ns _ en (nexts-with l s t i ns r s' t' i' p)
 
     module _ (ns : Option Numbers) (en : ns ≡ numbers_at line at) (r : Reply) (i' : List ℕ) where
       pub ups-line : moving r i' ≡ move_line l ns true i → out (answering r l) s t i' ≡ call_by (Some of_lent.Up) l line at s t i
-      unfolding moving
-      ups-line p = ap (moved_out l s t) (p ∙ ap (λ z. move_line l z true i) en)
+      ups-line p = numbers-read of_lent.Up ns _ en (ups-with l s t i ns r i' p)
 
       pub downs-line : moving r i' ≡ move_line l ns false i → out (answering r l) s t i' ≡ call_by (Some of_lent.Down) l line at s t i
-      unfolding moving
-      downs-line p = ap (moved_out l s t) (p ∙ ap (λ z. move_line l z false i) en)
+      downs-line p = numbers-read of_lent.Down ns _ en (downs-with l s t i ns r i' p)
 
     pub calls-line : (r : Reply) (s' t' : List ℕ) → told r (lent s' t') ≡ lent_call l line s t → out (answering r l) s' t' i ≡ call_by None l line at s t i
     unfolding told
