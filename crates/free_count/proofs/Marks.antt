@@ -1,24 +1,27 @@
--- What is not marked, after the marks of a row and of the lists. Assumes nothing.
-use Prim.Native.Nat.{ℕ, ◌+◌, ◌<◌}
-use mathlib.Core.Path.{◌≡◌, sym, ap, subst, ◌∙◌}
-use mathlib.Core.Bool.{Bool, not, ◌&&◌, and-true, and-false, and_assoc}
+-- What is not marked, after the marks of a row (those of this crate, and those of `sound_lists`) and of the lists. Assumes nothing.
+use Prim.Native.Nat.{ℕ, zero, suc, ◌+◌, ◌≤◌, ◌<◌}
+use mathlib.Core.Path.{◌≡◌, refl, sym, ap, subst, ◌∙◌}
+use mathlib.Core.Bool.{Bool, true, not, ◌&&◌, and-true, and-false, and_assoc}
 use mathlib.Core.List.{List}
+use native.Mathlib.Numerals.{add-one}
 use native.Mathlib.Omega.{arith}
 use native.Mathlib.Decide.{ℕ_discrete}
 use lib.Dec.{eqb}
-use lib.ListN.{length, get_or, set, replicate}
+use lib.ListN.{length, get_or, set, replicate, length-set}
 use lib.Seq.{get_or-set_same, get_or-set_other}
 use borrow.Author.Tests.{eq-eqb, ne_eqb}
 use Rattle.combine.specs.Laws.Replaced.{replicate-at}
 use Rattle.combine.specs.Below.{all_below, count_below}
 use Rattle.combine.specs.Laws.Below.{all-zero, all-suc}
 use Rattle.combine.specs.Lists.{is_in}
+use Rattle.combine.specs.Laws.Any.{not-in}
 use Rattle.placing.specs.Sizes.{most_segments, lists}
 use Rattle.segments.specs.Free.{is_free, free_count}
 use Rattle.tables.specs.Layout.{segments_in}
 use Rattle.tables.specs.Lists.{held_in}
 use Rattle.tables.specs.Laws.Sound.{Ranged}
 use Rattle.sound_lists.specs.ListFacts.{list-facts}
+use Rattle.sound_lists.specs.Marks.{mark_those}
 use Rattle.cells.specs.Says.{house_of}
 use Rattle.combine.specs.Laws.Below.{count-cong}
 use Rattle.free_count.specs.Rows.{row_of, length-row, row_at}
@@ -53,6 +56,28 @@ mark-one marks x g l = go (ℕ_discrete g x)
     go (yes e) = rw (eq-eqb g x e, e, get_or-set_same marks x 1 0 l) (sym (and-false (eqb (get_or marks x 0) 0)))
     go (no d) = rw (ne_eqb g x d, get_or-set_other marks x g 1 0 d) (sym (and-true (eqb (get_or marks g 0) 0)))
 
+module _ (row marks : List ℕ) where
+  -- the marks after those of the first n numbers, as `sound_lists` sets them
+  abbrev after_row : ℕ → List ℕ
+  after_row n = mark_those (λ k. true) (λ k. get_or row k 0) marks n
+
+  row-size : (n : ℕ) → length (after_row n) ≡ length marks
+  unfolding mark_those
+  row-size zero = refl
+  row-size (suc n) = length-set (after_row n) (get_or row n 0) 1 ∙ row-size n
+
+  module _ (low : (k : ℕ) → k < length row → get_or row k 0 < length marks) where
+    row-passed : (n : ℕ) → n ≤ length row → Unmarked (not_at row) marks n (after_row n)
+    unfolding mark_those
+    row-passed zero l = marks-start (not_at row) marks
+    row-passed (suc n) l =
+        let inside : get_or row n 0 < length (after_row n) = omega (arith, low n (omega arith), row-size n) in
+        subst (λ (k : ℕ). Unmarked (not_at row) marks k (set (after_row n) (get_or row n 0) 1)) (add-one n)
+        (marks-turn (not_at row) marks n (after_row n) (set (after_row n) (get_or row n 0) 1) (row-passed n (omega arith)) (λ g. mark-one (after_row n) (get_or row n 0) g inside))
+
+    row-marked : (g : ℕ) → eqb (get_or (after_row (length row)) g 0) 0 ≡ (eqb (get_or marks g 0) 0 && not (is_in g row))
+    row-marked = marks-done (not_at row) marks (length row) (length row) (after_row (length row)) _ refl (λ g. not-in g row) (row-passed (length row) (omega arith))
+
 -- ---- the lists: g is not in list i
 
 abbrev pub not_in : List ℕ → ℕ → ℕ → Bool
@@ -66,6 +91,15 @@ module _ (t : List ℕ) (w : Ranged t) (i : ℕ) (l : i < lists) where
 
   pub lent-low : (row : List ℕ) → row ≡ row_of t i → (k : ℕ) → k < length row → get_or row k 0 < most_segments
   lent-low row e = subst (λ (x : List ℕ). (k : ℕ) → k < length x → get_or x k 0 < most_segments) (sym e) row_low
+
+  -- one list more, whose row is marked as `sound_lists` does
+  pub lists-turn : (first marks row after : List ℕ) → row ≡ row_of t i → length marks ≡ most_segments
+      → after ≡ mark_those (λ k. true) (λ k. get_or row k 0) marks (length row) → Unmarked (not_in t) first i marks → (length after ≡ most_segments) × Unmarked (not_in t) first (i + 1) after
+  lists-turn first marks row after e size m u =
+      let low : (k : ℕ) → k < length row → get_or row k 0 < length marks = λ k h. omega (arith, size, lent-low row e k h) in (
+        ap length m ∙ row-size row marks (length row) ∙ size,
+        marks-turn (not_in t) first i marks after u (λ g. ap (λ (x : List ℕ). eqb (get_or x g 0) 0) m ∙ row-marked row marks low g ∙ ap (λ (x : List ℕ). eqb (get_or marks g 0) 0 && not (is_in g x)) e),
+      )
 
 -- ---- the marks were all zero at first
 

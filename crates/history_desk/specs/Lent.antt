@@ -45,3 +45,5 @@ module _ (l s t i : List ℕ) (ns : Option Numbers) where
     pub downs-with : moving r i' ≡ move_line l ns false i → out (answering r l) s t i' ≡ call_with of_lent.Down l ns s t i
     unfolding moving
     downs-with p = ap (moved_out l s t) p
+
+pub ruleset lent-numbers = (saves-with, loads-with, writes-with, nexts-with, ups-with, downs-with, with-known)

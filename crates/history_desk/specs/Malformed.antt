@@ -1,4 +1,4 @@
--- "a number too many, too few, too large or malformed", or a buffer that is not there: the line is bad, and changes nothing. Assumes nothing.
+-- A line whose numbers cannot be read (malformed, too large or more than four), or whose buffer is not there: it is bad, and changes nothing. Assumes nothing.
 use Rattle.std.specs.Prelude.{ℕ, ◌+◌, ◌<◌, ◌≡◌, refl, cond, eqb, ltb, List, ◌++◌, length, take, Option, Some, None}
 use Rattle.std.proofs.Math.Path.{sym, ap}
 use Rattle.std.proofs.Common.{◌∙◌, take-append-drop}
@@ -19,7 +19,7 @@ use Rattle.history_lent.specs.Rooms.{image_buffer, list_buffer, last_image, last
 use Rattle.history_lent.specs.Images.{image_line}
 use Rattle.history_lent.specs.Moves.{moving}
 use Rattle.history_desk.specs.Desk.{out, call_with, other_test, image_test, list_test, on_buffer, test_line}
-use Rattle.history_desk.specs.Speaking.{buffer-read}
+use Rattle.history_desk.specs.Speaking.{no_buffer, buffer-read}
 
 -- ---- a line for tests
 
@@ -81,3 +81,7 @@ module _ (l s t i : List ℕ) where
   no-call of_lent.Nexts = refl
   no-call of_lent.Up = refl
   no-call of_lent.Down = refl
+
+pub ruleset buffers-read = (no_buffer, no-name, no-numbers, buffer-read)
+
+pub ruleset malformed = (no-call, none-on, no-name, no-numbers)

@@ -183,7 +183,7 @@ pub ruleset lent-calls = (call-lent)
 
 pub ruleset lent_lines = (saves-line, loads-line, writes_line, nexts-line, ups-line, downs-line, lent-known)
 
-pub ruleset call-lines = (calls-line, call-read)
+pub ruleset call-lines = (calls-line, numbers-read, call-read)
 
 pub ruleset other-tests = (no-others, other-there, no-image, image-there, no-list, list-there)
 
