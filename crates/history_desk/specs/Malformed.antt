@@ -1,8 +1,8 @@
 -- A line whose numbers cannot be read (malformed, too large or more than four), or whose buffer is not there: it is bad, and changes nothing. Assumes nothing.
-use Rattle.std.specs.Prelude.{ℕ, ◌+◌, ◌<◌, ◌≡◌, refl, cond, eqb, ltb, List, ◌++◌, length, take, Option, Some, None}
+use Rattle.std.specs.Prelude.{ℕ, ◌+◌, ◌<◌, ◌≡◌, refl, eqb, ltb, List, ◌++◌, length, take, Option, Some, None}
 use Rattle.std.proofs.Math.Path.{sym, ap}
 use Rattle.std.proofs.Common.{◌∙◌, take-append-drop}
-use Rattle.std.proofs.Math.Bool.{Bool, true, false}
+use Rattle.std.proofs.lemmas.Bool.{cond_both}
 use Rattle.std.proofs.Math.ListN.{drop}
 use Rattle.history_words.specs.Words.{word_end, part, numbers_at}
 use Rattle.history_lines.specs.declared.OfBuffer.{OfBuffer}
@@ -32,9 +32,9 @@ no-test (Some of_buffer.Poke) l k cells = refl
 no-test (Some of_buffer.Lend) l k cells = refl
 
 module _ (l i : List ℕ) (w : Option OfBuffer) where
-  either : (b : Bool) (x y z : Tested) → x ≡ y → x ≡ z → x ≡ cond b y z
-  either true x y z p q = p
-  either false x y z p q = q
+  -- the line is bad, and the cells stay as they were
+  abbrev Unchanged : Tested → Type 0
+  Unchanged x = testing (answering Bad l) i ≡ x
 
   put-back : (from size : ℕ) → with_other from size i (other_at from size i) ≡ i
   put-back from size = ap (λ x. take from i ++ x) (take-append-drop size (drop from i)) ∙ take-append-drop from i
@@ -44,15 +44,15 @@ module _ (l i : List ℕ) (w : Option OfBuffer) where
   no-other-test from size k =
       let back = ap (testing (answering Bad l)) (sym (put-back from size)) in
       let bad = ap (λ (x : Tested). testing x.answered (with_other from size i x.cells)) (no-test w l k (other_at from size i)) in
-      either (eqb (length i) others_length) _ _ _ (back ∙ bad) refl
+      cond_both (eqb (length i) others_length) _ _ Unchanged (λ e. back ∙ bad) (λ e. refl)
 
   no-image-test : (k : ℕ) → testing (answering Bad l) i ≡ image_test w k None l i
   unfolding image_test
-  no-image-test k = either (ltb last_image k) _ _ _ refl (no-other-test (image_start k) image_buffer (first_image + k))
+  no-image-test k = cond_both (ltb last_image k) _ _ Unchanged (λ e. refl) (λ e. no-other-test (image_start k) image_buffer (first_image + k))
 
   no-list-test : (k : ℕ) → testing (answering Bad l) i ≡ list_test w k None l i
   unfolding list_test
-  no-list-test k = either (ltb last_list k) _ _ _ refl (no-other-test (list_start k) list_buffer (first_list + k))
+  no-list-test k = cond_both (ltb last_list k) _ _ Unchanged (λ e. refl) (λ e. no-other-test (list_start k) list_buffer (first_list + k))
 
 module _ (l s t i : List ℕ) where
   pub none-on : (w : Option OfBuffer) (b : Option Buffer) → out (answering Bad l) s t i ≡ on_buffer w b None l s t i
